@@ -1,0 +1,209 @@
+-- "The bench tree" as an image in bytes, document 01's worked calls on it with their answers, and rows of our own beside them.
+use Prim.Native.Nat.{ℕ, zero, suc, _+_, _-_, _*_, _^_}
+use Prim.Native.String.{String}
+use mathlib.Core.Bool.{Bool, true, false, cond}
+use mathlib.Core.List.{List, [], _∷_, _++_}
+use lib.Dec.{ltb}
+use lib.ListN.{set}
+use Rattle.model.specs.Bytes.{fieldBytes, ascii}
+use Rattle.model.specs.Answers.{notWalked, refused}
+use Rattle.model.specs.OpenHow.{O-DIRECTORY, O-NOFOLLOW, O-PATH, NO-XDEV, NO-MAGICLINKS, NO-SYMLINKS, BENEATH, IN-ROOT}
+use Rattle.model.specs.Resolve.{resolve}
+use Rattle.model.specs.declared.Handle.{Handle}
+use Rattle.model.specs.declared.Errno.{Errno}
+use Rattle.model.specs.declared.Errno.the-variants.{Einval, Enoent, Enotdir, Eloop, Exdev}
+use Rattle.model.specs.declared.Answer.{Answer}
+use Rattle.model.specs.declared.Answer.the-variants.{Found, Refused}
+
+-- bytes as document 01 writes them: two hexadecimal digits each, a space between
+unfoldable pub digit : ℕ → ℕ
+digit c = cond (ltb c 65) (c - 48) (c - 55)
+
+unfoldable pub hexBytes : List ℕ → List ℕ
+hexBytes [] = []
+hexBytes (a ∷ []) = []
+hexBytes (a ∷ (b ∷ [])) = (16 * digit a + digit b) ∷ []
+hexBytes (a ∷ (b ∷ (space ∷ s))) = (16 * digit a + digit b) ∷ hexBytes s
+
+unfoldable pub hex : String → List ℕ
+hex s = hexBytes (ascii s)
+
+-- "Smallest image, whole (40 bytes)"
+unfoldable pub smallest : List ℕ
+smallest =
+    hex "54 4F 43 31 01 00 01 00 00 00 00 00 00 00 00 00 28 00 00 00 01 00 00 00 00 00 00 00 00 00 00 00 00 00 00 00 00 00 00 00"
+
+-- the bench tree: header, nodes 0 to 11, mounts, entries, and the text: names in entry order, then link bodies
+unfoldable pub benchNodes : List ℕ
+benchNodes =
+    hex "01 00 00 00 00 00 00 00 01 00 00 00"
+    ++ hex "01 00 00 00 01 00 00 00 02 00 00 00"
+    ++ hex "01 00 01 00 03 00 00 00 06 00 00 00"
+    ++ hex "02 00 00 00 00 00 00 00 00 00 00 00"
+    ++ hex "03 00 00 00 1D 00 00 00 05 00 00 00"
+    ++ hex "03 00 00 00 22 00 00 00 0D 00 00 00"
+    ++ hex "03 00 00 00 2F 00 00 00 04 00 00 00"
+    ++ hex "01 00 01 00 09 00 00 00 00 00 00 00"
+    ++ hex "01 00 08 00 09 00 00 00 01 00 00 00"
+    ++ hex "02 00 00 00 00 00 00 00 00 00 00 00"
+    ++ hex "04 00 00 00 00 00 00 00 03 00 00 00"
+    ++ hex "03 00 00 00 33 00 00 00 05 00 00 00"
+
+unfoldable pub benchMounts : List ℕ
+benchMounts = hex "00 00 00 00 00 00 00 00" ++ hex "08 00 00 00 07 00 00 00"
+
+-- lab; cal, pool; abs, fd, loop, t, tare, up; run
+unfoldable pub benchEntries : List ℕ
+benchEntries =
+    hex "00 00 00 00 03 00 01 00"
+    ++ hex "03 00 00 00 03 00 02 00"
+    ++ hex "06 00 00 00 04 00 07 00"
+    ++ hex "0A 00 00 00 03 00 05 00"
+    ++ hex "0D 00 00 00 02 00 0A 00"
+    ++ hex "0F 00 00 00 04 00 06 00"
+    ++ hex "13 00 00 00 01 00 0B 00"
+    ++ hex "14 00 00 00 04 00 03 00"
+    ++ hex "18 00 00 00 02 00 04 00"
+    ++ hex "1A 00 00 00 03 00 09 00"
+
+unfoldable pub bench : List ℕ
+bench =
+    hex "54 4F 43 31 0C 00 02 00 0A 00 00 00 38 00 00 00 3C 01 00 00"
+    ++ benchNodes
+    ++ benchMounts
+    ++ benchEntries
+    ++ ascii "labcalpoolabsfdloopttareuprun../../lab/cal/tarelooptare/"
+
+-- an open_how of 24 bytes
+unfoldable pub openHow : ℕ → ℕ → List ℕ
+openHow flags how = fieldBytes 8 flags ++ fieldBytes 2 0 ++ fieldBytes 6 0 ++ fieldBytes 8 how
+
+-- a call and its answer
+pub record Case : Type 0 where
+  pub image : List ℕ
+  pub handle : Handle
+  pub path : List ℕ
+  pub flags : ℕ
+  pub bits : ℕ
+  pub expected : Answer
+
+abbrev pub handleAt : ℕ → ℕ → Bool → Handle
+handleAt m n marked = record { mount = m; node = n; mark = marked }
+
+-- "Handle (0,1), flags and resolve 0 unless said."
+abbrev pub call : String → ℕ → ℕ → Answer → Case
+call path flags bits a = record {
+  image = bench;
+  handle = handleAt 0 1 false;
+  path = ascii path;
+  flags = flags;
+  bits = bits;
+  expected = a;
+}
+
+abbrev pub markedCall : String → ℕ → Answer → Case
+markedCall path bits a = record {
+  image = bench;
+  handle = handleAt 0 1 true;
+  path = ascii path;
+  flags = 0;
+  bits = bits;
+  expected = a;
+}
+
+-- "Shown: answer; components, links."
+abbrev pub at : ℕ → ℕ → ℕ → ℕ → Answer
+at m n c l = Found (record { place = record { mount = m; node = n }; progress = record { components = c; links = l } })
+
+abbrev pub error : Errno → ℕ → ℕ → Answer
+error e c l = refused e (record { components = c; links = l })
+
+-- P1 to P12, P6 as three rows, and the unnumbered rows
+unfoldable pub workedTable : List Case
+workedTable =
+    call "cal/tare" 0 0 (at 0 3 2 0)
+    ∷ call "pool/run" 0 0 (at 1 9 2 0)
+    ∷ call "pool/run" 0 NO-XDEV (error Exdev 1 0)
+    ∷ call "pool/../cal" 0 BENEATH (at 0 2 3 0)
+    ∷ call ".." 0 0 (at 0 0 1 0)
+    ∷ call ".." 0 BENEATH (error Exdev 1 0)
+    ∷ call ".." 0 IN-ROOT (at 0 1 1 0)
+    ∷ markedCall ".." 0 (error Enoent 1 0)
+    ∷ call "cal/abs" 0 0 (at 0 3 5 1)
+    ∷ call "cal/abs" 0 BENEATH (error Exdev 2 0)
+    ∷ call "cal/abs" 0 IN-ROOT (error Enoent 3 1)
+    ∷ call "cal/loop" 0 0 (error Eloop 42 40)
+    ∷ call "cal/up" 0 BENEATH (error Exdev 4 1)
+    ∷ call "cal/fd" (O-PATH + O-NOFOLLOW) NO-MAGICLINKS (at 0 10 2 0)
+    ∷ call "cal/fd" 0 NO-XDEV (at 0 3 2 1)
+    ∷ call "cal/t" 0 0 (error Enotdir 3 1)
+    ∷ call "cal/tare/x" 0 0 (error Enotdir 2 0)
+    ∷ call "cal/abs" O-NOFOLLOW 0 (error Eloop 2 0)
+    ∷ call "/" 0 0 (at 0 0 0 0)
+    ∷ []
+
+-- the bench tree with lab mounted on pool too: mount 1's root is node 1
+unfoldable pub bind : List ℕ
+bind = set bench 172 1
+
+-- one directory that names "m", a magic link to that directory
+unfoldable pub magicLoop : List ℕ
+magicLoop =
+    hex "54 4F 43 31 02 00 01 00 01 00 00 00 01 00 00 00 3D 00 00 00"
+    ++ hex "01 00 00 00 00 00 00 00 01 00 00 00"
+    ++ hex "04 00 00 00 00 00 00 00 00 00 00 00"
+    ++ hex "00 00 00 00 00 00 00 00"
+    ++ hex "00 00 00 00 01 00 01 00"
+    ++ ascii "m"
+
+-- "m/m/..": the magic link a number of times
+unfoldable pub magicPath : ℕ → List ℕ
+magicPath zero = []
+magicPath (suc n) = ascii "m/" ++ magicPath n
+
+abbrev pub magicCall : ℕ → Answer → Case
+magicCall n a = record {
+  image = magicLoop;
+  handle = handleAt 0 0 false;
+  path = magicPath n;
+  flags = 0;
+  bits = 0;
+  expected = a;
+}
+
+-- Rows of our own, for slips that document 01's rows do not show: the handle told by node alone; mark and BENEATH swapped in a row;
+-- NO_SYMLINKS at an unfollowed last link; an unknown bit above 31; NO_XDEV at an absolute given path; ".." folded as text; magic
+-- links not counted against the 40.
+unfoldable pub ownTable : List Case
+ownTable =
+    record {
+      image = bind;
+      handle = handleAt 0 1 false;
+      path = ascii "pool/..";
+      flags = 0;
+      bits = BENEATH;
+      expected = at 0 1 2 0;
+    }
+    ∷ markedCall "/lab" BENEATH (error Enoent 0 0)
+    ∷ markedCall ".." BENEATH (error Enoent 1 0)
+    ∷ markedCall "cal/fd" BENEATH (error Enoent 2 0)
+    ∷ markedCall "cal/abs" BENEATH (error Enoent 2 0)
+    ∷ call "cal/abs" (O-PATH + O-NOFOLLOW) NO-SYMLINKS (at 0 5 2 0)
+    ∷ call "cal" (2 ^ 32) 0 (Refused (record { errno = Einval; detail = 32; progress = notWalked }))
+    ∷ call "cal" 0 (2 ^ 63) (Refused (record { errno = Einval; detail = 127; progress = notWalked }))
+    ∷ record {
+      image = bench;
+      handle = handleAt 1 8 false;
+      path = ascii "/lab";
+      flags = 0;
+      bits = NO-XDEV;
+      expected = at 0 1 1 0;
+    }
+    ∷ call "cal/up/.." 0 0 (at 0 0 5 1)
+    ∷ magicCall 40 (at 0 0 40 40)
+    ∷ magicCall 41 (error Eloop 41 40)
+    ∷ []
+
+-- what the resolver answers to a case
+unfoldable pub run : Case → Answer
+run c = resolve (c .image) (c .handle) (c .path) (openHow (c .flags) (c .bits))

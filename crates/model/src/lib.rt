@@ -1,0 +1,66 @@
+// The types that the definitions, the promises and the code share. The definitions are in specs/, the theorems over them in
+// proofs/.
+
+// A place, in document 01's sense: a node as it is seen through one mount.
+pub struct Place {
+    pub mount: usize,
+    pub node: usize,
+}
+
+// A directory handle. The mark is the below mark of OpenBSD's O_BELOW proposal, kept with the handle.
+pub struct Handle {
+    pub mount: usize,
+    pub node: usize,
+    pub mark: bool,
+}
+
+// How far a walk came: components taken and links followed.
+pub struct Progress {
+    pub components: usize,
+    pub links: usize,
+}
+
+// A walk's state: where it stands, how far it came, and whether it must end on a directory.
+pub struct State {
+    pub place: Place,
+    pub progress: Progress,
+    pub directory: bool,
+}
+
+// What Found carries.
+pub struct Reached {
+    pub place: Place,
+    pub progress: Progress,
+}
+
+// The error numbers that the resolver gives, by their usual names. Errno.antt in specs/ has each one's number.
+pub enum Errno {
+    Euclean,
+    E2big,
+    Einval,
+    Enametoolong,
+    Enoent,
+    Ebadf,
+    Enotdir,
+    Eloop,
+    Exdev,
+}
+
+// What a refusal carries: detail is an unknown bit's number, else 255.
+pub struct Refusal {
+    pub errno: Errno,
+    pub detail: u32,
+    pub progress: Progress,
+}
+
+// The resolver's answer.
+pub enum Answer {
+    Found(Reached),
+    Refused(Refusal),
+}
+
+// The table check's answer: accepted, or the lowest rule broken with the lowest record that breaks it.
+pub enum Verdict {
+    Accepted,
+    Broken { rule: usize, record: usize },
+}

@@ -1,0 +1,246 @@
+-- What acceptance implies: that every record of an accepted table keeps its rule, and what the walk rests on. Assumes nothing.
+use Prim.Native.Nat.{ℕ, zero, suc, _+_, _-_, _*_, _≤_, _<_, zero-le}
+use mathlib.Core.Bool.{Bool, true, false, cond, not, _&&_, _||_, true≢false, false≢true}
+use mathlib.Core.List.{List, [], _∷_}
+use mathlib.Core.Option.{Option, none, some}
+use mathlib.Core.Path.{_≡_, refl, sym, ap, _∙_, subst}
+use mathlib.Core.Logic.{⊎-elim}
+use native.Mathlib.Nat.{le-of-eq, le-trans, le-of-suc-le-suc, eq-or-lt-of-le}
+use native.Mathlib.Omega.{arith}
+use lib.Dec.{eqb, ltb, leb}
+use lib.ListN.{length, length-take}
+use borrow.Author.Tests.{ltb-true, leb-true, eqb-true, eq-eqb, not-true}
+use Rattle.model.specs.Bytes.{contains, part, find, firstFailing, orElse}
+use Rattle.model.specs.Tree.{Tree, treeOf, byKind, isDirectory, lookup, under, mountOn}
+use Rattle.model.specs.TableCheck.{unless, rule1, rule2, rule3, countsFit, wholeLength, directoryCount, countsBefore, directoryHolds, symlinkHolds, nodeHolds, rule4, nameHolds, ascends, standsInParent, entryHolds, rule5, pointHolds, sharesPoint, hangs, mountHolds, rule6, targetHolds, magicTargetHolds, rule7, breaks, recordsCheck, tableCheck}
+use Rattle.model.specs.declared.Place.{Place}
+use Rattle.model.specs.declared.Verdict.{Verdict}
+use Rattle.model.specs.declared.Verdict.the-variants.{Accepted, Broken}
+use Rattle.theorems.proofs.ByteLaws.{firstFailing-none, find-some}
+use Rattle.theorems.proofs.Cases.{some-not-none, both}
+
+-- what rules 1 and 3 say of the sizes
+pub record Sized (s : List ℕ) : Type 0 where
+  pub some-node : 1 ≤ treeOf s .nodes
+  pub few-nodes : treeOf s .nodes ≤ 4096
+  pub some-mount : 1 ≤ treeOf s .mounts
+  pub few-mounts : treeOf s .mounts ≤ 256
+  pub few-entries : treeOf s .entries ≤ 4096
+  pub small : length s ≤ 65536
+  pub whole : length s ≡ 20 + 12 * treeOf s .nodes + 8 * treeOf s .mounts + 8 * treeOf s .entries + treeOf s .textLength
+
+-- a tree whose every record keeps its rule
+pub record Sound (t : Tree) : Type 0 where
+  pub some-mount : 0 < t .mounts
+  pub node-holds : (n : ℕ) → n < t .nodes → nodeHolds t n ≡ true
+  pub counts-sum : countsBefore t (t .nodes) ≡ t .entries
+  pub entry-holds : (e : ℕ) → e < t .entries → entryHolds t e ≡ true
+  pub mount-holds : (m : ℕ) → m < t .mounts → mountHolds t m ≡ true
+  pub target-holds : (n : ℕ) → n < t .nodes → magicTargetHolds t n ≡ true
+  pub body-length : (n : ℕ) → length (t .body n) ≤ t .count n
+
+unbroken : (rule : ℕ) (o : Option ℕ) (later : Verdict) → breaks rule o later ≡ Accepted → (o ≡ none) × (later ≡ Accepted)
+unbroken rule none later e = (refl, e)
+unbroken rule (some r) later e = let z : _≡_ {A = ℕ} 0 1 = cc in absurd (omega arith)
+
+passed : (b : Bool) (r : ℕ) → unless b r ≡ none → b ≡ true
+passed true r e = refl
+passed false r e = absurd (some-not-none r e)
+
+neither : (a b : Option ℕ) → orElse a b ≡ none → (a ≡ none) × (b ≡ none)
+neither none b e = (refl, e)
+neither (some r) b e = absurd (some-not-none r e)
+
+-- rules 4 to 7 all keep quiet
+pub record Unbroken (t : Tree) : Type 0 where
+  pub four : rule4 t ≡ none
+  pub five : rule5 t ≡ none
+  pub six : rule6 t ≡ none
+  pub seven : rule7 t ≡ none
+
+unbroken-records : (t : Tree) → recordsCheck t ≡ Accepted → Unbroken t
+unfolding recordsCheck
+unbroken-records t e =
+    let r4 = unbroken 4 (rule4 t) (breaks 5 (rule5 t) (breaks 6 (rule6 t) (breaks 7 (rule7 t) Accepted))) e in
+    let r5 = unbroken 5 (rule5 t) (breaks 6 (rule6 t) (breaks 7 (rule7 t) Accepted)) (r4 .1) in
+    let r6 = unbroken 6 (rule6 t) (breaks 7 (rule7 t) Accepted) (r5 .1) in
+    let r7 = unbroken 7 (rule7 t) Accepted (r6 .1) in
+    record { four = r4 .0; five = r5 .0; six = r6 .0; seven = r7 .0 }
+
+pub rules-sized : (s : List ℕ) → rule1 s ≡ none → rule3 s ≡ none → Sized s
+unfolding rule1 rule3 countsFit wholeLength
+rules-sized s e1 e3 =
+    let t = treeOf s in
+    let l = both (leb 20 (length s)) _ (passed _ 0 e1) in
+    let w = both _ _ (passed _ 0 e3) in
+    let c = both _ _ (both _ _ (w .0) .0) in
+    let c4 = both _ _ (c .0) in
+    let c3 = both _ _ (c4 .0) in
+    let c2 = both _ _ (c3 .0) in
+    record {
+      some-node = leb-true _ _ (c2 .0);
+      few-nodes = leb-true _ _ (c2 .1);
+      some-mount = leb-true _ _ (c3 .1);
+      few-mounts = leb-true _ _ (c4 .1);
+      few-entries = leb-true _ _ (c .1);
+      small = leb-true _ _ (l .1);
+      whole = eqb-true _ _ (w .1);
+    }
+
+pub accepted-sized : (s : List ℕ) → tableCheck s ≡ Accepted → Sized s
+unfolding tableCheck
+accepted-sized s e =
+    let t = treeOf s in
+    let r1 = unbroken 1 (rule1 s) (breaks 2 (rule2 s) (breaks 3 (rule3 s) (recordsCheck t))) e in
+    let r2 = unbroken 2 (rule2 s) (breaks 3 (rule3 s) (recordsCheck t)) (r1 .1) in
+    let r3 = unbroken 3 (rule3 s) (recordsCheck t) (r2 .1) in
+    rules-sized s (r1 .0) (r3 .0)
+
+body-short : (s : List ℕ) (n : ℕ) → length (treeOf s .body n) ≤ treeOf s .count n
+unfolding treeOf part
+body-short s n = simp length-take (omega arith)
+
+pub accepted-sound : (s : List ℕ) → tableCheck s ≡ Accepted → Sound (treeOf s)
+unfolding tableCheck rule3 rule4 rule5 rule6 rule7
+accepted-sound s e =
+    let t = treeOf s in
+    let r1 = unbroken 1 (rule1 s) (breaks 2 (rule2 s) (breaks 3 (rule3 s) (recordsCheck t))) e in
+    let r2 = unbroken 2 (rule2 s) (breaks 3 (rule3 s) (recordsCheck t)) (r1 .1) in
+    let r3 = unbroken 3 (rule3 s) (recordsCheck t) (r2 .1) in
+    let r = unbroken-records t (r3 .1) in
+    let n = neither (firstFailing (nodeHolds t) (t .nodes)) (unless (eqb (countsBefore t (t .nodes)) (t .entries)) (t .nodes)) (r .four) in
+    record {
+      some-mount = rules-sized s (r1 .0) (r3 .0) .some-mount;
+      node-holds = firstFailing-none (nodeHolds t) (t .nodes) (n .0);
+      counts-sum = eqb-true _ _ (passed _ (t .nodes) (n .1));
+      entry-holds = firstFailing-none (entryHolds t) (t .entries) (r .five);
+      mount-holds = firstFailing-none (mountHolds t) (t .mounts) (r .six);
+      target-holds = firstFailing-none (magicTargetHolds t) (t .nodes) (r .seven);
+      body-length = λ n. body-short s n;
+    }
+
+-- what a sound tree's records say of one another
+module _ (t : Tree) (sound : Sound t) where
+  -- a directory's own rule
+  pub directory-rule : (n : ℕ) → isDirectory t n ≡ true → directoryHolds t n ≡ true
+  unfolding isDirectory nodeHolds
+  directory-rule n d =
+      let b = both (ltb n (t .nodes)) (eqb (t .kind n) 1) d in
+      let h = sound .node-holds n (ltb-true _ _ (b .0)) in
+      rw (b .1) at h
+
+  pub directory-below : (n : ℕ) → isDirectory t n ≡ true → n < t .nodes
+  unfolding isDirectory
+  directory-below n d = ltb-true _ _ (both (ltb n (t .nodes)) (eqb (t .kind n) 1) d .0)
+
+  pub directory-kind : (n : ℕ) → isDirectory t n ≡ true → t .kind n ≡ 1
+  unfolding isDirectory
+  directory-kind n d = eqb-true _ _ (both (ltb n (t .nodes)) (eqb (t .kind n) 1) d .1)
+
+  -- a directory's parent
+  pub parent-directory : (n : ℕ) → isDirectory t n ≡ true → isDirectory t (t .parent n) ≡ true
+  unfolding directoryHolds
+  parent-directory n d = both (isDirectory t (t .parent n)) _ (both (isDirectory t (t .parent n) && leb (t .parent n) n) _ (directory-rule n d) .0) .0
+
+  pub parent-le : (n : ℕ) → isDirectory t n ≡ true → t .parent n ≤ n
+  unfolding directoryHolds
+  parent-le n d = leb-true _ _ (both (isDirectory t (t .parent n)) _ (both (isDirectory t (t .parent n) && leb (t .parent n) n) _ (directory-rule n d) .0) .1)
+
+  pub first-sum : (n : ℕ) → isDirectory t n ≡ true → t .first n ≡ countsBefore t n
+  unfolding directoryHolds
+  first-sum n d = eqb-true _ _ (both (isDirectory t (t .parent n) && leb (t .parent n) n) _ (directory-rule n d) .1)
+
+  counts-grow : (n m : ℕ) → n ≤ m → countsBefore t n ≤ countsBefore t m
+  unfolding countsBefore
+  counts-grow n zero h = le-of-eq (let e : n ≡ 0 = omega arith in ap (countsBefore t) e)
+  counts-grow n (suc m) h =
+      ⊎-elim
+      (λ e. le-of-eq (ap (countsBefore t) e))
+      (λ l. omega (arith, counts-grow n m (le-of-suc-le-suc l)))
+      (eq-or-lt-of-le h)
+
+  counts-next : (n : ℕ) → t .kind n ≡ 1 → countsBefore t (suc n) ≡ countsBefore t n + t .count n
+  unfolding countsBefore directoryCount
+  counts-next n k = rw (eq-eqb (t .kind n) 1 k)
+
+  -- a directory's entries lie among the table's
+  pub entries-inside : (n : ℕ) → isDirectory t n ≡ true → t .first n + t .count n ≤ t .entries
+  entries-inside n d =
+      omega (arith, first-sum n d, counts-next n (directory-kind n d), counts-grow (suc n) (t .nodes) (directory-below n d), sound .counts-sum)
+
+  pub lookup-inside : (n : ℕ) (name : List ℕ) (e : ℕ) → isDirectory t n ≡ true → lookup t n name ≡ some e → e < t .entries
+  unfolding lookup
+  lookup-inside n name e d f =
+      let l = find-some _ (t .first n) (t .count n) e f in
+      omega (arith, l .below, entries-inside n d)
+
+  -- what rule 5 says of an entry
+  pub entry-facts : (e : ℕ) → e < t .entries
+      → (nameHolds t e ≡ true) × (t .entryNode e < t .nodes) × (ascends t e ≡ true) × (standsInParent t e ≡ true)
+  unfolding entryHolds
+  entry-facts e h =
+      let a = both (nameHolds t e && ltb (t .entryNode e) (t .nodes) && ascends t e) (standsInParent t e) (sound .entry-holds e h) in
+      let b = both (nameHolds t e && ltb (t .entryNode e) (t .nodes)) (ascends t e) (a .0) in
+      let c = both (nameHolds t e) (ltb (t .entryNode e) (t .nodes)) (b .0) in
+      (c .0, ltb-true _ _ (c .1), b .1, a .1)
+
+  pub root-directory : (m : ℕ) → m < t .mounts → isDirectory t (t .mountRoot m) ≡ true
+  unfolding mountHolds
+  root-directory m h = both (isDirectory t (t .mountRoot m)) _ (both (isDirectory t (t .mountRoot m) && eqb (t .mountZero m) 0) _ (sound .mount-holds m h) .0) .0
+
+  mount-hangs : (m : ℕ) → m < t .mounts → hangs t m ≡ true
+  unfolding mountHolds
+  mount-hangs m h = both (isDirectory t (t .mountRoot m) && eqb (t .mountZero m) 0) _ (sound .mount-holds m h) .1
+
+  -- mount 0 is its own parent, at its own root
+  mount-0 : 0 < t .mounts → (t .mountParent 0 ≡ 0) × (t .mountPoint 0 ≡ t .mountRoot 0)
+  unfolding hangs
+  mount-0 h =
+      let k : (eqb (t .mountParent 0) 0 && eqb (t .mountPoint 0) (t .mountRoot 0)) ≡ true = mount-hangs zero h in
+      let b = both _ _ k in
+      (eqb-true _ _ (b .0), eqb-true _ _ (b .1))
+
+  -- any other hangs in a lower mount, on a directory
+  mount-above : (m : ℕ) → suc m < t .mounts → (t .mountParent (suc m) < suc m) × (pointHolds t (suc m) ≡ true) × (sharesPoint t (suc m) ≡ false)
+  unfolding hangs
+  mount-above m h =
+      let k : (ltb (t .mountParent (suc m)) (suc m) && pointHolds t (suc m) && not (sharesPoint t (suc m))) ≡ true = mount-hangs (suc m) h in
+      let b = both _ _ k in
+      let c = both _ _ (b .0) in
+      (ltb-true _ _ (c .0), c .1, not-true _ (b .1))
+
+  pub point-directory : (m : ℕ) → m < t .mounts → isDirectory t (t .mountPoint m) ≡ true
+  unfolding pointHolds
+  point-directory zero h = subst (λ (n : ℕ). isDirectory t n ≡ true) (sym (mount-0 h .1)) (root-directory zero h)
+  point-directory (suc m) h = both (isDirectory t (t .mountPoint (suc m))) _ (both (isDirectory t (t .mountPoint (suc m)) && under t (t .mountPoint (suc m)) (t .mountRoot (t .mountParent (suc m)))) _ (mount-above m h .1) .0) .0
+
+  pub mount-parent-below : (m : ℕ) → m < t .mounts → t .mountParent m < t .mounts
+  mount-parent-below zero h = omega (arith, mount-0 h .0)
+  mount-parent-below (suc m) h = omega (arith, mount-above m h .0)
+
+  pub mount-on-below : (p : Place) (m : ℕ) → mountOn t p ≡ some m → (1 ≤ m) × (m < t .mounts)
+  unfolding mountOn
+  mount-on-below p m f =
+      let l = find-some _ 1 (t .mounts - 1) m f in
+      (l .from, omega (arith, l .below, l .from))
+
+  pub target-inside : (n : ℕ) → n < t .nodes → t .kind n ≡ 4 → (t .first n < t .mounts) × (t .count n < t .nodes)
+  unfolding magicTargetHolds targetHolds
+  target-inside n h k =
+      let e = rw (eq-eqb (t .kind n) 4 k) at (sound .target-holds n h) in
+      let b = both _ _ (both _ _ e .0) in
+      (ltb-true _ _ (b .0), ltb-true _ _ (b .1))
+
+  -- what rule 4 says of a symbolic link
+  pub symlink-facts : (n : ℕ) → n < t .nodes → t .kind n ≡ 3
+      → (t .first n + t .count n ≤ t .textLength) × (1 ≤ t .count n) × (t .count n ≤ 4095) × (contains 0 (t .body n) ≡ false)
+  unfolding nodeHolds symlinkHolds
+  symlink-facts n h k =
+      let a = both (eqb (t .parent n) 0 && leb (t .first n + t .count n) (t .textLength) && leb 1 (t .count n) && leb (t .count n) 4095) (not (contains 0 (t .body n))) (rw k at (sound .node-holds n h)) in
+      let b = both (eqb (t .parent n) 0 && leb (t .first n + t .count n) (t .textLength) && leb 1 (t .count n)) (leb (t .count n) 4095) (a .0) in
+      let c = both (eqb (t .parent n) 0 && leb (t .first n + t .count n) (t .textLength)) (leb 1 (t .count n)) (b .0) in
+      let d = both (eqb (t .parent n) 0) (leb (t .first n + t .count n) (t .textLength)) (c .0) in
+      (leb-true _ _ (d .1), leb-true _ _ (c .1), leb-true _ _ (b .1), not-true _ (a .1))
+
+  pub body-small : (n : ℕ) → n < t .nodes → t .kind n ≡ 3 → length (t .body n) ≤ 4095
+  body-small n h k = le-trans (sound .body-length n) (symlink-facts n h k .2)

@@ -1,0 +1,45 @@
+-- Laws of the bits of a number. Assumes nothing.
+use Prim.Native.Nat.{ℕ, zero, suc, _+_, _*_, _/_, _%_, _^_, _≤_, _<_, max}
+use mathlib.Core.Bool.{Bool, true, false, cond, not, _&&_, _||_, or-false}
+use mathlib.Core.Path.{_≡_, refl, sym, ap, ap₂, _∙_}
+use native.Mathlib.Nat.{div-eq-of-lt}
+use native.Mathlib.Omega.{arith}
+use lib.Dec.{eqb}
+use lib.Bits.{bitOr, or-step, or-shr, or-block, or-zero-r}
+use Rattle.model.specs.Bytes.{has}
+
+digit-or : (p q : ℕ) → p < 2 → q < 2 → eqb (max p q) 1 ≡ eqb p 1 || eqb q 1
+digit-or zero zero hp hq = refl
+digit-or zero (suc zero) hp hq = refl
+digit-or (suc zero) zero hp hq = refl
+digit-or (suc zero) (suc zero) hp hq = refl
+digit-or zero (suc (suc q)) hp hq = absurd (omega arith)
+digit-or (suc zero) (suc (suc q)) hp hq = absurd (omega arith)
+digit-or (suc (suc p)) q hp hq = absurd (omega arith)
+
+low-or : (u v : ℕ) → bitOr u v % 2 ≡ max (u % 2) (v % 2)
+low-or u v = let e = or-step u v in omega arith
+
+-- "or" goes bit by bit
+pub has-or : (b x y : ℕ) → has (2 ^ b) (bitOr x y) ≡ has (2 ^ b) x || has (2 ^ b) y
+unfolding has
+has-or b x y =
+    ap (λ (z : ℕ). eqb (z % 2) 1) (or-shr x y b)
+    ∙ ap (λ (z : ℕ). eqb z 1) (low-or (x / 2 ^ b) (y / 2 ^ b))
+    ∙ digit-or (x / 2 ^ b % 2) (y / 2 ^ b % 2) (omega arith) (omega arith)
+
+-- a bit above a number's digits is not set
+high-clear : (b x : ℕ) → x < 2 ^ b → has (2 ^ b) x ≡ false
+unfolding has
+high-clear b x h = rw (div-eq-of-lt h)
+
+-- so "or" with a smaller number leaves it
+pub has-or-high : (b x y : ℕ) → y < 2 ^ b → has (2 ^ b) (bitOr x y) ≡ has (2 ^ b) x
+has-or-high b x y h = has-or b x y ∙ ap (λ (t : Bool). has (2 ^ b) x || t) (high-clear b y h) ∙ or-false _
+
+-- "or" with a byte goes into the lowest byte
+pub or-low : (r b y : ℕ) → b < 256 → y < 256 → bitOr (b + 256 * r) y ≡ bitOr b y + 256 * r
+or-low r b y hb hy =
+    let left : b + 256 * r ≡ r * 2 ^ 8 + b = omega arith in
+    let right : y ≡ 0 * 2 ^ 8 + y = omega arith in
+    ap₂ bitOr left right ∙ or-block 8 r 0 b y hb hy ∙ omega (arith, or-zero-r r)

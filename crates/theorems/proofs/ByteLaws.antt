@@ -1,0 +1,94 @@
+-- Laws of the readings and searches of specs/Bytes.antt. Assumes nothing.
+use Prim.Native.Nat.{ℕ, zero, suc, _+_, _-_, _*_, _/_, _%_, _^_, _≤_, _<_}
+use mathlib.Core.Bool.{Bool, true, false, cond, not}
+use mathlib.Core.List.{List, [], _∷_, _++_}
+use mathlib.Core.Option.{Option, none, some}
+use mathlib.Core.Path.{_≡_, refl, sym, ap, _∙_}
+use native.Mathlib.Omega.{arith}
+use native.Mathlib.Numerals.{add-one}
+use native.Mathlib.Nat.{eq-or-lt-of-le}
+use mathlib.Core.Logic.{_⊎_, inl, inr, ⊎-elim}
+use borrow.Author.Tests.{not-false}
+use lib.ListN.{getD, length}
+use lib.Dec.{eqb}
+use Rattle.model.specs.Bytes.{field, fieldBytes, find, firstFailing}
+use Rattle.theorems.proofs.Cases.{some-not-none}
+
+-- a field is the same where its bytes are
+pub field-ext : (width : ℕ) (s t : List ℕ) (at : ℕ) → ((i : ℕ) → at ≤ i → i < at + width → getD s i 0 ≡ getD t i 0)
+    → field width s at ≡ field width t at
+unfolding field
+field-ext zero s t at same = refl
+field-ext (suc width) s t at same =
+    rw (same at (omega arith) (omega arith), field-ext width s t (at + 1) (λ i l h. same i (omega arith) (omega arith)))
+
+-- a search is the same where its tests are
+pub find-ext : (p q : ℕ → Bool) (at count : ℕ) → ((i : ℕ) → at ≤ i → p i ≡ q i) → find p at count ≡ find q at count
+unfolding find
+find-ext p q at zero same = refl
+find-ext p q at (suc count) same = rw (same at (omega arith), find-ext p q (suc at) count (λ i h. same i (omega arith)))
+
+-- a field of a list's tail
+pub field-cons : (width x : ℕ) (s : List ℕ) (at : ℕ) → field width (x ∷ s) (suc at) ≡ field width s at
+unfolding field
+field-cons zero x s at = refl
+field-cons (suc width) x s at =
+    let e : suc at + 1 ≡ suc (at + 1) = omega arith in
+    rw (e, field-cons width x s (at + 1))
+
+-- reading back what was written gives the number, at every width
+pub field-bytes : (width x : ℕ) (s : List ℕ) → x < 256 ^ width → field width (fieldBytes width x ++ s) 0 ≡ x
+unfolding field fieldBytes
+field-bytes zero x s h = omega arith
+field-bytes (suc width) x s h =
+    let rest : field width (fieldBytes width (x / 256) ++ s) 0 ≡ x / 256 = field-bytes width (x / 256) s (omega arith) in
+    rw (field-cons width (x % 256) (fieldBytes width (x / 256) ++ s) 0, rest) (omega arith)
+
+find-none-by : (b : Bool) (at : ℕ) (later : Option ℕ) → cond b (some at) later ≡ none → (b ≡ false) × (later ≡ none)
+find-none-by true at later e = absurd (some-not-none at e)
+find-none-by false at later e = (refl, e)
+
+-- a search that finds nothing has passed over every number
+pub find-none : (p : ℕ → Bool) (at count : ℕ) → find p at count ≡ none → (i : ℕ) → at ≤ i → i < at + count → p i ≡ false
+unfolding find
+find-none p at zero e i l u = absurd (omega arith)
+find-none p at (suc count) e i l u =
+    let here = find-none-by (p at) at (find p (suc at) count) e in
+    ⊎-elim (λ q. ap p (sym q) ∙ here .0) (λ q. find-none p (suc at) count (here .1) i q (omega arith)) (eq-or-lt-of-le l)
+
+-- what a search finds lies in its range, passes the test, and is the lowest that does
+pub record Lowest (p : ℕ → Bool) (at count k : ℕ) : Type 0 where
+  pub from : at ≤ k
+  pub below : k < at + count
+  pub passes : p k ≡ true
+  pub lowest : (i : ℕ) → at ≤ i → i < k → p i ≡ false
+
+find-some-by : (b : Bool) (at k : ℕ) (later : Option ℕ) → cond b (some at) later ≡ some k
+    → ((b ≡ true) × (at ≡ k)) ⊎ ((b ≡ false) × (later ≡ some k))
+find-some-by true at k later e = inl (refl, cc)
+find-some-by false at k later e = inr (refl, e)
+
+pub find-some : (p : ℕ → Bool) (at count k : ℕ) → find p at count ≡ some k → Lowest p at count k
+unfolding find
+find-some p at zero k e = absurd (some-not-none k (sym e))
+find-some p at (suc count) k e =
+    ⊎-elim
+    (λ (here : (p at ≡ true) × (at ≡ k)). record {
+      from = omega arith;
+      below = omega arith;
+      passes = ap p (sym (here .1)) ∙ here .0;
+      lowest = λ i l u. absurd (omega arith);
+    })
+    (λ (there : (p at ≡ false) × (find p (suc at) count ≡ some k)).
+    let r = find-some p (suc at) count k (there .1) in
+    record {
+      from = omega (arith, r .from);
+      below = omega (arith, r .below);
+      passes = r .passes;
+      lowest = λ i l u. ⊎-elim (λ q. ap p (sym q) ∙ there .0) (λ q. r .lowest i q u) (eq-or-lt-of-le l);
+    })
+    (find-some-by (p at) at k (find p (suc at) count) e)
+
+pub firstFailing-none : (p : ℕ → Bool) (count : ℕ) → firstFailing p count ≡ none → (i : ℕ) → i < count → p i ≡ true
+unfolding firstFailing
+firstFailing-none p count e i h = not-false (p i) (find-none (λ n. not (p n)) 0 count e i (omega arith) (omega arith))

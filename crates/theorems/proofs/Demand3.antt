@@ -1,0 +1,233 @@
+-- Demand 3 of two calls of `resolve`, and its corollary: an added restriction can only stop a walk. Assumes nothing.
+use Prim.Native.Nat.{ℕ, zero, suc, _+_, _-_, _*_, _/_, _%_, _^_, _≤_, _<_}
+use mathlib.Core.Bool.{Bool, true, false, cond, not, _&&_, _||_, and-false, or-false, true≢false}
+use mathlib.Core.List.{List, [], _∷_}
+use mathlib.Core.Logic.{_⊎_, inl, inr, ⊎-elim}
+use mathlib.Core.Option.{Option, none, some}
+use mathlib.Core.Path.{_≡_, refl, sym, ap, ap₂, _∙_, subst}
+use native.Mathlib.Omega.{arith}
+use lib.Bits.{bitOr}
+use lib.Dec.{eqb, ltb, lit<}
+use lib.Pow.{pow-pos}
+use lib.ListN.{length, getD, set, length-set}
+use lib.Seq.{getD-set-same, getD-set-other}
+use native.Mathlib.Nat.{lt-irrefl, lt-of-le-of-lt}
+use borrow.Author.Tests.{ltb-true, ltb-false}
+use Rattle.model.specs.Bytes.{field, has, find, isSome, orElse}
+use Rattle.model.specs.Tree.{Tree, treeOf}
+use Rattle.model.specs.TableCheck.{tableCheck}
+use Rattle.model.specs.Answers.{refused, refuseIf, refusal, notWalked}
+use Rattle.model.specs.OpenHow.{flagsOf, modeOf, paddingOf, resolveOf, unknownBit, refuseUnknown, tailSet, bothScopes, modeSet, howRefused, knownFlags, knownResolve, NO-XDEV, NO-MAGICLINKS, NO-SYMLINKS, BENEATH, IN-ROOT}
+use Rattle.model.specs.Handles.{placeOf, handleRefused}
+use Rattle.model.specs.Trace.{Restriction, mark, beneath, noXdev, noSymlinks, noMagiclinks, Restrictions, answer}
+use Rattle.model.specs.Resolve.{refusedTable, refusedBefore, restrictions, requestOf, traceOf, resolve}
+use Rattle.theorems.specs.Adding.{addedBits, Adds, Meeting, eventsOf, firstForbidden, withBits, withMark, OnlyStops, Demand3}
+use Rattle.model.specs.declared.Handle.{Handle}
+use Rattle.model.specs.declared.Progress.{Progress}
+use Rattle.model.specs.declared.Reached.{Reached}
+use Rattle.model.specs.declared.Refusal.{Refusal}
+use Rattle.model.specs.declared.Answer.the-variants.{Found}
+use Rattle.model.specs.declared.Verdict.the-variants.{Accepted}
+use Rattle.model.specs.declared.Errno.{Errno}
+use Rattle.model.specs.declared.Errno.the-variants.{Einval, E2big}
+use Rattle.theorems.proofs.ByteLaws.{field-ext, find-ext}
+use Rattle.theorems.proofs.Cases.{some-not-none}
+use Rattle.theorems.proofs.BitLaws.{has-or, has-or-high, or-low}
+use Rattle.theorems.proofs.Refusals.{unrefused, how-long}
+use Rattle.theorems.proofs.OnlyStops as trace
+
+-- the number that the bits of the added restrictions make, and its bits one by one
+abbrev sum : Bool → Bool → Bool → Bool → ℕ
+sum x m s b = cond x NO-XDEV 0 + cond m NO-MAGICLINKS 0 + cond s NO-SYMLINKS 0 + cond b BENEATH 0
+
+abbrev Bits : Bool → Bool → Bool → Bool → ℕ → Type 0
+Bits x m s b y = (has NO-XDEV y ≡ x) × (has NO-MAGICLINKS y ≡ m) × (has NO-SYMLINKS y ≡ s) × (has BENEATH y ≡ b) × (has IN-ROOT y ≡ false) × (y < 32)
+
+bits : (x m s b : Bool) → Bits x m s b (sum x m s b)
+unfolding has
+bits false false false false = (refl, refl, refl, refl, refl, lit< tt)
+bits false false false true = (refl, refl, refl, refl, refl, lit< tt)
+bits false false true false = (refl, refl, refl, refl, refl, lit< tt)
+bits false false true true = (refl, refl, refl, refl, refl, lit< tt)
+bits false true false false = (refl, refl, refl, refl, refl, lit< tt)
+bits false true false true = (refl, refl, refl, refl, refl, lit< tt)
+bits false true true false = (refl, refl, refl, refl, refl, lit< tt)
+bits false true true true = (refl, refl, refl, refl, refl, lit< tt)
+bits true false false false = (refl, refl, refl, refl, refl, lit< tt)
+bits true false false true = (refl, refl, refl, refl, refl, lit< tt)
+bits true false true false = (refl, refl, refl, refl, refl, lit< tt)
+bits true false true true = (refl, refl, refl, refl, refl, lit< tt)
+bits true true false false = (refl, refl, refl, refl, refl, lit< tt)
+bits true true false true = (refl, refl, refl, refl, refl, lit< tt)
+bits true true true false = (refl, refl, refl, refl, refl, lit< tt)
+bits true true true true = (refl, refl, refl, refl, refl, lit< tt)
+
+bits-of : (added : Restrictions) → Bits (added noXdev) (added noMagiclinks) (added noSymlinks) (added beneath) (addedBits added)
+unfolding addedBits
+bits-of added = bits (added noXdev) (added noMagiclinks) (added noSymlinks) (added beneath)
+
+-- a test under a mask asks nothing where the mask is off
+masked : (u v k : Bool) → (k ≡ false → u ≡ v) → (u && not k) ≡ (v && not k)
+masked u v true h = and-false u ∙ sym (and-false v)
+masked u v false h = ap (λ (t : Bool). t && true) (h refl)
+
+-- a bit that is not known to resolve lies above the known ones
+above-known : (b : ℕ) → has (2 ^ b) knownResolve ≡ false → 32 ≤ 2 ^ b
+unfolding has
+above-known zero h = absurd (true≢false h)
+above-known (suc zero) h = absurd (true≢false h)
+above-known (suc (suc zero)) h = absurd (true≢false h)
+above-known (suc (suc (suc zero))) h = absurd (true≢false h)
+above-known (suc (suc (suc (suc zero)))) h = absurd (true≢false h)
+above-known (suc (suc (suc (suc (suc b))))) h = omega (arith, pow-pos b)
+
+-- known bits that are added make no bit unknown
+unknown-kept : (x y : ℕ) → y < 32 → (b : ℕ)
+    → (has (2 ^ b) (bitOr x y) && not (has (2 ^ b) knownResolve)) ≡ (has (2 ^ b) x && not (has (2 ^ b) knownResolve))
+unknown-kept x y h b =
+    masked (has (2 ^ b) (bitOr x y)) (has (2 ^ b) x) (has (2 ^ b) knownResolve)
+    (λ k. let l = above-known b k in has-or-high b x y (omega arith))
+
+-- both scopes are set after adding where they were before, BENEATH being added only with IN_ROOT off
+scopes : (a b r : Bool) → (a ≡ true → r ≡ false) → ((b || a) && r) ≡ (b && r)
+scopes true b true off = absurd (true≢false (off refl))
+scopes true b false off = and-false (b || true) ∙ sym (and-false b)
+scopes false b r off = ap (λ (t : Bool). t && r) (or-false b)
+
+module _ (added : Restrictions) (h : Handle) (how : List ℕ) (h′ : Handle) (how′ : List ℕ) (adds : Adds added h how h′ how′)
+    (scope : added beneath ≡ true → has IN-ROOT (resolveOf how) ≡ false) (long : 24 ≤ length how) where
+  -- a bit of the second call's resolve
+  bit-added : (b : ℕ) (a : Bool) → has (2 ^ b) (addedBits added) ≡ a → has (2 ^ b) (resolveOf how′) ≡ has (2 ^ b) (resolveOf how) || a
+  bit-added b a e = ap (has (2 ^ b)) (adds .bitsAdded long) ∙ has-or b (resolveOf how) (addedBits added) ∙ ap (λ (t : Bool). has (2 ^ b) (resolveOf how) || t) e
+
+  in-root-kept : has IN-ROOT (resolveOf how′) ≡ has IN-ROOT (resolveOf how)
+  in-root-kept = bit-added 4 false (bits-of added .4) ∙ or-false _
+
+  -- the restrictions of the second call are those of the first and the added ones
+  all-set : (r : Restriction) → restrictions h′ how′ r ≡ restrictions h how r || added r
+  unfolding restrictions
+  all-set mark = adds .markAdded
+  all-set beneath = bit-added 3 (added beneath) (bits-of added .3)
+  all-set noXdev = bit-added 0 (added noXdev) (bits-of added .0)
+  all-set noSymlinks = bit-added 2 (added noSymlinks) (bits-of added .2)
+  all-set noMagiclinks = bit-added 1 (added noMagiclinks) (bits-of added .1)
+
+  flags-kept : flagsOf how′ ≡ flagsOf how
+  unfolding flagsOf
+  flags-kept = field-ext 8 how′ how 0 (λ i l u. adds .alike i (inl (omega arith)))
+
+  mode-kept : modeSet how′ ≡ modeSet how
+  unfolding modeSet modeOf paddingOf
+  mode-kept =
+      rw (field-ext 2 how′ how 8 (λ i l u. adds .alike i (inl (omega arith))), field-ext 6 how′ how 10 (λ i l u. adds .alike i (inl (omega arith))))
+
+  tail-kept : tailSet how′ ≡ tailSet how
+  unfolding tailSet
+  tail-kept =
+      rw (adds .sameLength)
+      (ap isSome (find-ext (λ i. not (eqb (getD how′ i 0) 0)) (λ i. not (eqb (getD how i 0) 0)) 24 (length how - 24) (λ i l. ap (λ (b : ℕ). not (eqb b 0)) (adds .alike i (inr l)))))
+
+  unknown-same : unknownBit knownResolve (resolveOf how′) ≡ unknownBit knownResolve (resolveOf how)
+  unfolding unknownBit
+  unknown-same = rw (adds .bitsAdded long) (find-ext _ _ 0 64 (λ b l. unknown-kept (resolveOf how) (addedBits added) (bits-of added .5) b))
+
+  scopes-kept : bothScopes how′ ≡ bothScopes how
+  unfolding bothScopes
+  scopes-kept = rw (bit-added 3 (added beneath) (bits-of added .3), in-root-kept) (scopes (added beneath) (has BENEATH (resolveOf how)) (has IN-ROOT (resolveOf how)) scope)
+
+  how-kept : howRefused how′ ≡ howRefused how
+  unfolding howRefused
+  how-kept = rw (adds .sameLength, tail-kept, flags-kept, unknown-same, scopes-kept, mode-kept)
+
+-- the handle's place decides whether it is refused
+handle-kept : (t : Tree) (h h′ : Handle) → placeOf h′ ≡ placeOf h → handleRefused t h′ ≡ handleRefused t h
+unfolding handleRefused
+handle-kept t h h′ e =
+    rw (ap (λ p. p .mount) e, ap (λ p. p .node) e)
+
+module _ (added : Restrictions) (image path : List ℕ) (h : Handle) (how : List ℕ) (h′ : Handle) (how′ : List ℕ)
+    (adds : Adds added h how h′ how′) (scope : added beneath ≡ true → has IN-ROOT (resolveOf how) ≡ false) where
+  how-same-by : (b : Bool) → ltb (length how) 24 ≡ b → howRefused how′ ≡ howRefused how
+  how-same-by true e = ap howRefused (adds .short (ltb-true _ _ e))
+  how-same-by false e = how-kept added h how h′ how′ adds scope (ltb-false _ _ e)
+
+  before-kept : refusedBefore image h′ path how′ ≡ refusedBefore image h path how
+  unfolding refusedBefore
+  before-kept = rw (how-same-by (ltb (length how) 24) refl, handle-kept (treeOf image) h h′ (adds .samePlace))
+
+  trace-kept : 24 ≤ length how → traceOf image h′ path how′ ≡ traceOf image h path how
+  unfolding traceOf requestOf
+  trace-kept l = rw (flags-kept added h how h′ how′ adds scope l, in-root-kept added h how h′ how′ adds scope l, adds .samePlace)
+
+  only-stops : (o : Option Refusal) → refusedBefore image h path how ≡ o → OnlyStops added image path h how h′ how′
+  unfolding resolve eventsOf firstForbidden
+  only-stops (some r) e = record {
+    same = λ _. rw (before-kept, e);
+    stopped = λ m p f. absurd (some-not-none (m, p) (sym (rw e at f)));
+  }
+  only-stops none e =
+      let l = how-long how (unrefused image h path how e .how-passes) in
+      let all = all-set added h how h′ how′ adds scope l in
+      let t = traceOf image h path how in
+      record {
+        same = λ f. rw (before-kept, e, trace-kept l) (trace.same (restrictions h how) added (restrictions h′ how′) all t (rw e at f));
+        stopped = λ m p f. rw (before-kept, e, trace-kept l) (trace.stopped (restrictions h how) added (restrictions h′ how′) all t m p (rw e at f));
+      }
+
+pub demand-3 : Demand3
+demand-3 added image path h how h′ how′ accepted good adds scope =
+    only-stops added image path h how h′ how′ adds scope (refusedBefore image h path how) refl
+
+found-not-refused : (r : Reached) (e : Errno) (p : Progress) → Found r ≡ refused e p → ⊥
+found-not-refused r e p h = let z : _≡_ {A = ℕ} 0 1 = cc in omega arith
+
+-- "So a further restriction never turns one place into another.": a place found with restrictions added is found without them too,
+-- with the same counts
+pub never-elsewhere : (added : Restrictions) (image path : List ℕ) (h : Handle) (how : List ℕ) (h′ : Handle) (how′ : List ℕ)
+    → tableCheck image ≡ Accepted
+    → handleRefused (treeOf image) h ≡ none
+    → Adds added h how h′ how′
+    → (added beneath ≡ true → has IN-ROOT (resolveOf how) ≡ false)
+    → (r : Reached) → resolve image h′ path how′ ≡ Found r → resolve image h path how ≡ Found r
+never-elsewhere added image path h how h′ how′ accepted good adds scope r found =
+    go (firstForbidden added (eventsOf image h path how)) refl
+  where
+    only : OnlyStops added image path h how h′ how′
+    only = demand-3 added image path h how h′ how′ accepted good adds scope
+
+    go : (o : Option Meeting) → firstForbidden added (eventsOf image h path how) ≡ o → resolve image h path how ≡ Found r
+    go none e = sym (only .same e) ∙ found
+    go (some (m, p)) e = let s = only .stopped m p e in absurd (found-not-refused r (s .0) p (sym found ∙ s .2))
+
+-- resolve after a store to its first byte
+resolve-set : (how : List ℕ) (y : ℕ) → 24 ≤ length how → getD how 16 0 < 256 → y < 256
+    → resolveOf (set how 16 (bitOr (getD how 16 0) y)) ≡ bitOr (resolveOf how) y
+unfolding resolveOf field
+resolve-set how y long byte small =
+    let v = bitOr (getD how 16 0) y in
+    rw (getD-set-same how 16 v 0 (omega arith), field-ext 7 (set how 16 v) how 17 (λ i l u. getD-set-other how 16 i v 0 (λ e. omega arith)))
+    (sym (or-low (field 7 how 17) (getD how 16 0) y byte small))
+
+-- setting the bits in the bytes of an open_how, and the mark in a handle, gives such a second call
+pub setting-adds : (added : Restrictions) (h : Handle) (how : List ℕ) → getD how 16 0 < 256
+    → Adds added h how (withMark added h) (withBits added how)
+unfolding withBits withMark
+setting-adds added h how byte = go (ltb (length how) 24) refl
+  where
+    go : (b : Bool) → ltb (length how) 24 ≡ b → Adds added h how (withMark added h) (withBits added how)
+    go true e = record {
+      samePlace = refl;
+      markAdded = refl;
+      sameLength = rw e;
+      alike = λ i outside. rw e;
+      short = λ s. rw e;
+      bitsAdded = λ l. absurd (lt-irrefl 24 (lt-of-le-of-lt l (ltb-true _ _ e)));
+    }
+    go false e = record {
+      samePlace = refl;
+      markAdded = refl;
+      sameLength = rw e (length-set how 16 _);
+      alike = λ i outside. rw e (getD-set-other how 16 i _ 0 (λ x. ⊎-elim (λ (l : i < 16). omega arith) (λ (l : 24 ≤ i). omega arith) outside));
+      short = λ s. absurd (lt-irrefl 24 (lt-of-le-of-lt (ltb-false _ _ e) s));
+      bitsAdded = λ l. rw e (resolve-set how (addedBits added) l byte (let y = bits-of added in omega arith));
+    }

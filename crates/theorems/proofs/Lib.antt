@@ -1,0 +1,10 @@
+-- The theorems, `Demand3` and `Bounds`, and the laws that they and other crates' proofs cite.
+pub mod Cases
+pub mod ByteLaws
+pub mod BitLaws
+pub mod Acceptance
+pub mod Inside
+pub mod Refusals
+pub mod OnlyStops
+pub mod Demand3
+pub mod Bounds

@@ -1,0 +1,122 @@
+-- Laws of the checks before the walk: what a call that they let through is known to be, and that a refusal by them carries no counts.
+-- Assumes nothing.
+use Prim.Native.Nat.{ℕ, _+_, _≤_, _<_}
+use mathlib.Core.Bool.{Bool, true, false, not, _&&_, _||_}
+use mathlib.Core.List.{List}
+use mathlib.Core.Option.{Option, none, some}
+use mathlib.Core.Path.{_≡_, refl, sym}
+use lib.Dec.{eqb, ltb}
+use lib.ListN.{length}
+use borrow.Author.Tests.{ltb-true, ltb-false, not-false}
+use Rattle.model.specs.Bytes.{orElse, contains}
+use Rattle.model.specs.Tree.{Tree, treeOf, isDirectory, under, covered}
+use Rattle.model.specs.TableCheck.{tableCheck}
+use Rattle.model.specs.Answers.{notWalked, refusal, refuseIf}
+use Rattle.model.specs.OpenHow.{flagsOf, resolveOf, unknownBit, refuseUnknown, tailSet, bothScopes, modeSet, howRefused, knownFlags, knownResolve}
+use Rattle.model.specs.Path.{pathRefused}
+use Rattle.model.specs.Handles.{placeOf, handleRefused}
+use Rattle.model.specs.Resolve.{refusedTable, refusedBefore}
+use Rattle.model.specs.declared.Handle.{Handle}
+use Rattle.model.specs.declared.Refusal.{Refusal}
+use Rattle.model.specs.declared.Errno.{Errno}
+use Rattle.model.specs.declared.Errno.the-variants.{Euclean, Einval, E2big, Enametoolong, Enoent, Ebadf, Enotdir}
+use Rattle.model.specs.declared.Verdict.{Verdict}
+use Rattle.model.specs.declared.Verdict.the-variants.{Accepted, Broken}
+use Rattle.theorems.proofs.Cases.{some-not-none, both}
+use Rattle.theorems.proofs.Inside.{Inside}
+
+-- where a chain of checks refuses nothing, no check of it does
+both-none : (a b : Option Refusal) → orElse a b ≡ none → (a ≡ none) × (b ≡ none)
+both-none none b e = (refl, e)
+both-none (some r) b e = absurd (some-not-none r e)
+
+pub passes : (t : Bool) (e : Errno) (later : Option Refusal) → refuseIf t e later ≡ none → (t ≡ false) × (later ≡ none)
+passes true e later h = absurd (some-not-none (refusal e notWalked) h)
+passes false e later h = (refl, h)
+
+accepted : (v : Verdict) → refusedTable v ≡ none → v ≡ Accepted
+accepted Accepted e = refl
+accepted (Broken rule r) e = absurd (some-not-none (refusal Euclean notWalked) e)
+
+-- a call that no check refuses
+pub record Unrefused (image : List ℕ) (h : Handle) (path how : List ℕ) : Type 0 where
+  pub table-passes : tableCheck image ≡ Accepted
+  pub how-passes : howRefused how ≡ none
+  pub path-passes : pathRefused path ≡ none
+  pub handle-passes : handleRefused (treeOf image) h ≡ none
+
+pub unrefused : (image : List ℕ) (h : Handle) (path how : List ℕ) → refusedBefore image h path how ≡ none → Unrefused image h path how
+unfolding refusedBefore
+unrefused image h path how e =
+    let a = both-none (refusedTable (tableCheck image)) (orElse (howRefused how) (orElse (pathRefused path) (handleRefused (treeOf image) h))) e in
+    let b = both-none (howRefused how) (orElse (pathRefused path) (handleRefused (treeOf image) h)) (a .1) in
+    let c = both-none (pathRefused path) (handleRefused (treeOf image) h) (b .1) in
+    record { table-passes = accepted (tableCheck image) (a .0); how-passes = b .0; path-passes = c .0; handle-passes = c .1 }
+
+-- it has a resolve,
+pub how-long : (how : List ℕ) → howRefused how ≡ none → 24 ≤ length how
+unfolding howRefused
+how-long how e = ltb-false _ _ (passes (ltb (length how) 24) Einval _ e .0)
+
+-- a path of at most 4,095 bytes,
+pub path-short : (path : List ℕ) → pathRefused path ≡ none → length path ≤ 4095
+unfolding pathRefused
+path-short path e = ltb-false _ _ (passes (ltb 4095 (length path)) Enametoolong _ e .0)
+
+-- and a handle in the tree
+pub handle-inside : (t : Tree) (h : Handle) → handleRefused t h ≡ none → Inside t (placeOf h)
+unfolding handleRefused
+handle-inside t h e =
+    let b = both (ltb (h .mount) (t .mounts)) (ltb (h .node) (t .nodes)) (not-false _ (passes (not (ltb (h .mount) (t .mounts) && ltb (h .node) (t .nodes))) Ebadf _ e .0)) in
+    record { mount-below = ltb-true _ _ (b .0); node-below = ltb-true _ _ (b .1) }
+
+-- "both counts (0 before the walk)"
+abbrev pub Uncounted : Option Refusal → Type 0
+Uncounted none = Unit {0}
+Uncounted (some r) = r .progress ≡ notWalked
+
+if-uncounted : (t : Bool) (e : Errno) (later : Option Refusal) → Uncounted later → Uncounted (refuseIf t e later)
+if-uncounted true e later h = refl
+if-uncounted false e later h = h
+
+unknown-uncounted : (base : ℕ) (o : Option ℕ) (later : Option Refusal) → Uncounted later → Uncounted (refuseUnknown base o later)
+unknown-uncounted base none later h = h
+unknown-uncounted base (some b) later h = refl
+
+or-uncounted : (o later : Option Refusal) → Uncounted o → Uncounted later → Uncounted (orElse o later)
+or-uncounted none later h k = k
+or-uncounted (some r) later h k = h
+
+table-uncounted : (v : Verdict) → Uncounted (refusedTable v)
+table-uncounted Accepted = tt
+table-uncounted (Broken rule r) = refl
+
+how-uncounted : (how : List ℕ) → Uncounted (howRefused how)
+unfolding howRefused
+how-uncounted how =
+    if-uncounted (ltb (length how) 24) Einval _
+    (if-uncounted (ltb 4096 (length how)) E2big _
+    (if-uncounted (tailSet how) E2big _
+    (unknown-uncounted 0 (unknownBit knownFlags (flagsOf how)) _
+    (unknown-uncounted 64 (unknownBit knownResolve (resolveOf how)) _
+    (if-uncounted (bothScopes how) Einval _ (if-uncounted (modeSet how) Einval none tt))))))
+
+path-uncounted : (path : List ℕ) → Uncounted (pathRefused path)
+unfolding pathRefused
+path-uncounted path =
+    if-uncounted (ltb 4095 (length path)) Enametoolong _
+    (if-uncounted (eqb (length path) 0) Enoent _ (if-uncounted (contains 0 path) Einval none tt))
+
+handle-uncounted : (t : Tree) (h : Handle) → Uncounted (handleRefused t h)
+unfolding handleRefused
+handle-uncounted t h =
+    if-uncounted (not (ltb (h .mount) (t .mounts) && ltb (h .node) (t .nodes))) Ebadf _
+    (if-uncounted (not (isDirectory t (h .node))) Enotdir _
+    (if-uncounted (not (under t (h .node) (t .mountRoot (h .mount))) || covered t (placeOf h)) Ebadf none tt))
+
+pub before-uncounted : (image : List ℕ) (h : Handle) (path how : List ℕ) → Uncounted (refusedBefore image h path how)
+unfolding refusedBefore
+before-uncounted image h path how =
+    or-uncounted (refusedTable (tableCheck image)) _ (table-uncounted (tableCheck image))
+    (or-uncounted (howRefused how) _ (how-uncounted how)
+    (or-uncounted (pathRefused path) _ (path-uncounted path) (handle-uncounted (treeOf image) h)))

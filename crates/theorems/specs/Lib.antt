@@ -1,0 +1,3 @@
+-- What the theorems state. The definitions that they speak of are the crate model's.
+pub mod Adding
+pub mod Bounded
