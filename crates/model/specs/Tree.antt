@@ -32,7 +32,7 @@ pub record Tree : Type 0 where
   pub entryNode : ℕ → ℕ
 
 -- "Bodies in order: N node records of 12 bytes, M mounts of 8, E entries of 8, T text bytes": where each begins
-unfoldable pub nodeAt : ℕ → ℕ
+abbrev pub nodeAt : ℕ → ℕ
 nodeAt n = 20 + 12 * n
 
 unfoldable pub mountAt : List ℕ → ℕ → ℕ

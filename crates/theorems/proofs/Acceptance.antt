@@ -16,28 +16,9 @@ use Rattle.model.specs.TableCheck.{unless, rule1, rule2, rule3, countsFit, whol
 use Rattle.model.specs.declared.Place.{Place}
 use Rattle.model.specs.declared.Verdict.{Verdict}
 use Rattle.model.specs.declared.Verdict.the-variants.{Accepted, Broken}
+use Rattle.theorems.specs.Acceptance.{Sized, Sound}
 use Rattle.theorems.proofs.ByteLaws.{firstFailing-none, find-some}
 use Rattle.theorems.proofs.Cases.{some-not-none, both}
-
--- what rules 1 and 3 say of the sizes
-pub record Sized (s : List ℕ) : Type 0 where
-  pub some-node : 1 ≤ treeOf s .nodes
-  pub few-nodes : treeOf s .nodes ≤ 4096
-  pub some-mount : 1 ≤ treeOf s .mounts
-  pub few-mounts : treeOf s .mounts ≤ 256
-  pub few-entries : treeOf s .entries ≤ 4096
-  pub small : length s ≤ 65536
-  pub whole : length s ≡ 20 + 12 * treeOf s .nodes + 8 * treeOf s .mounts + 8 * treeOf s .entries + treeOf s .textLength
-
--- a tree whose every record keeps its rule
-pub record Sound (t : Tree) : Type 0 where
-  pub some-mount : 0 < t .mounts
-  pub node-holds : (n : ℕ) → n < t .nodes → nodeHolds t n ≡ true
-  pub counts-sum : countsBefore t (t .nodes) ≡ t .entries
-  pub entry-holds : (e : ℕ) → e < t .entries → entryHolds t e ≡ true
-  pub mount-holds : (m : ℕ) → m < t .mounts → mountHolds t m ≡ true
-  pub target-holds : (n : ℕ) → n < t .nodes → magicTargetHolds t n ≡ true
-  pub body-length : (n : ℕ) → length (t .body n) ≤ t .count n
 
 unbroken : (rule : ℕ) (o : Option ℕ) (later : Verdict) → breaks rule o later ≡ Accepted → (o ≡ none) × (later ≡ Accepted)
 unbroken rule none later e = (refl, e)

@@ -30,7 +30,8 @@ use Rattle.model.specs.declared.Verdict.{Verdict}
 use Rattle.model.specs.declared.Verdict.the-variants.{Accepted, Broken}
 use Rattle.theorems.specs.Bounded.{Bounded, EveryWalk}
 use Rattle.theorems.proofs.Cases.{cond-cases}
-use Rattle.theorems.proofs.Acceptance.{Sound, accepted-sound, body-small}
+use Rattle.theorems.specs.Acceptance.{Sound}
+use Rattle.theorems.proofs.Acceptance.{accepted-sound, body-small}
 use Rattle.theorems.proofs.Inside.{Inside, root-inside, LandingInside, StepInside, one-component-inside}
 use Rattle.theorems.proofs.Refusals.{unrefused, path-short, handle-inside, Uncounted, before-uncounted}
 

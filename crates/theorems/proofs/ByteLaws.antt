@@ -6,7 +6,7 @@ use mathlib.Core.Option.{Option, none, some}
 use mathlib.Core.Path.{_≡_, refl, sym, ap, _∙_}
 use native.Mathlib.Omega.{arith}
 use native.Mathlib.Numerals.{add-one}
-use native.Mathlib.Nat.{eq-or-lt-of-le}
+use native.Mathlib.Nat.{eq-or-lt-of-le, zero-add, add-zero, suc-add, pow-suc}
 use mathlib.Core.Logic.{_⊎_, inl, inr, ⊎-elim}
 use borrow.Author.Tests.{not-false}
 use lib.ListN.{getD, length}
@@ -27,6 +27,15 @@ pub find-ext : (p q : ℕ → Bool) (at count : ℕ) → ((i : ℕ) → at ≤ i
 unfolding find
 find-ext p q at zero same = refl
 find-ext p q at (suc count) same = rw (same at (omega arith), find-ext p q (suc at) count (λ i h. same i (omega arith)))
+
+-- a field is its low bytes and, above them, its high bytes: one law for every width
+pub field-split : (low high : ℕ) (s : List ℕ) (at : ℕ)
+    → field (low + high) s at ≡ field low s at + 256 ^ low * field high s (at + low)
+unfolding field
+field-split zero high s at = rw (zero-add high, add-zero at) (omega arith)
+field-split (suc low) high s at =
+    let e : at + suc low ≡ at + 1 + low = omega arith in
+    rw (suc-add low high, e, field-split low high s (at + 1), pow-suc 256 low) (omega arith)
 
 -- a field of a list's tail
 pub field-cons : (width x : ℕ) (s : List ℕ) (at : ℕ) → field width (x ∷ s) (suc at) ≡ field width s at

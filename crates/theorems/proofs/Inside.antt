@@ -13,7 +13,8 @@ use Rattle.model.specs.Walk.{Request, placeAt, samePlace, rootOf, pointOf, Move
 use Rattle.model.specs.Path.{absolute}
 use Rattle.model.specs.Trace.{Event, Escape}
 use Rattle.model.specs.declared.Place.{Place}
-use Rattle.theorems.proofs.Acceptance.{Sound, directory-below, parent-directory, lookup-inside, entry-facts, root-directory, point-directory, mount-parent-below, mount-on-below, target-inside}
+use Rattle.theorems.specs.Acceptance.{Sound}
+use Rattle.theorems.proofs.Acceptance.{directory-below, parent-directory, lookup-inside, entry-facts, root-directory, point-directory, mount-parent-below, mount-on-below, target-inside}
 use Rattle.theorems.proofs.Cases.{both, first-of, cond-cases}
 
 -- a mount and a node of the tree

@@ -2,6 +2,7 @@
 pub mod Cases
 pub mod ByteLaws
 pub mod BitLaws
+pub mod StringLaws
 pub mod Acceptance
 pub mod Inside
 pub mod Refusals

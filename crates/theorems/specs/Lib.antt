@@ -1,3 +1,4 @@
 -- What the theorems state. The definitions that they speak of are the crate model's.
+pub mod Acceptance
 pub mod Adding
 pub mod Bounded

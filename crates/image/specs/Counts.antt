@@ -1,0 +1,17 @@
+-- The counts of an image's header.
+use Prim.Native.Nat.{ℕ, _^_, _<_}
+use mathlib.Core.List.{List}
+use mathlib.Core.Path.{_≡_}
+use Rattle.model.specs.Tree.{treeOf}
+use Rattle.theorems.specs.Acceptance.{Sized}
+use Rattle.image.specs.declared.records.Counts.{Counts}
+
+abbrev pub countsOf : List ℕ → Counts
+countsOf s = record { nodes = treeOf s .nodes; mounts = treeOf s .mounts; entries = treeOf s .entries }
+
+-- an image whose sizes fit (rules 1 and 3), with its counts
+pub record Counted (s : List ℕ) (c : Counts) : Type 0 where
+  pub sized : Sized s
+  pub nodes-are : c .nodes ≡ treeOf s .nodes
+  pub mounts-are : c .mounts ≡ treeOf s .mounts
+  pub entries-are : c .entries ≡ treeOf s .entries

@@ -1,0 +1,102 @@
+-- Laws of byte strings, one byte at a time from a position on. Assumes nothing.
+use Prim.Native.Nat.{ℕ, zero, suc, _+_, _-_, _≤_, _<_}
+use mathlib.Core.Bool.{Bool, true, false, _&&_, _||_, or-true, or-false, and-false, false≢true}
+use mathlib.Core.List.{List, [], _∷_}
+use mathlib.Core.Path.{_≡_, refl, sym, ap, ap₂, _∙_}
+use native.Mathlib.Omega.{arith}
+use native.Mathlib.Numerals.{add-one}
+use borrow.Author.Tests.{eq-eqb, ne-eqb, eqb-true, ltb-true, ltb-false}
+use lib.Dec.{eqb, ltb}
+use lib.ListN.{length, getD, take, drop, drop-of-length-le}
+use lib.Seq.{drop-cons}
+use Rattle.model.specs.Bytes.{part, contains, sameBytes, before}
+use Rattle.theorems.proofs.Cases.{both}
+
+next : (s : List ℕ) (i : ℕ) → i < length s → drop i s ≡ getD s i 0 ∷ drop (i + 1) s
+next s i h = rw (add-one, drop-cons s i 0)
+
+pub contains-next : (b : ℕ) (s : List ℕ) (i : ℕ) → i < length s → contains b (drop i s) ≡ eqb (getD s i 0) b || contains b (drop (i + 1) s)
+unfolding contains
+contains-next b s i h = rw (next s i h)
+
+pub contains-end : (b : ℕ) (s : List ℕ) (i : ℕ) → length s ≤ i → contains b (drop i s) ≡ false
+unfolding contains
+contains-end b s i h = rw (drop-of-length-le s h)
+
+-- what is known of the bytes before a position, and of the one at it
+pub seen-hit : (b : ℕ) (s : List ℕ) (i : ℕ) (found : Bool) → i < length s → contains b s ≡ found || contains b (drop i s) → getD s i 0 ≡ b
+    → contains b s ≡ true
+seen-hit b s i found h seen e = seen ∙ rw (contains-next b s i h, eq-eqb (getD s i 0) b e) (or-true found)
+
+pub seen-miss : (b : ℕ) (s : List ℕ) (i : ℕ) (found : Bool) → i < length s → contains b s ≡ found || contains b (drop i s) → (getD s i 0 ≡ b → ⊥)
+    → contains b s ≡ found || contains b (drop (i + 1) s)
+seen-miss b s i found h seen e = seen ∙ rw (contains-next b s i h, ne-eqb (getD s i 0) b e)
+
+pub seen-all : (b : ℕ) (s : List ℕ) (i : ℕ) (found : Bool) → length s ≤ i → contains b s ≡ found || contains b (drop i s) → found ≡ contains b s
+seen-all b s i found h seen = sym (seen ∙ rw (contains-end b s i h) (or-false found))
+
+-- strings of different lengths differ
+pub differing : (s t : List ℕ) → (length s ≡ length t → ⊥) → sameBytes s t ≡ false
+unfolding sameBytes
+differing [] [] h = absurd (h refl)
+differing [] (y ∷ t) h = refl
+differing (x ∷ s) [] h = refl
+differing (x ∷ s) (y ∷ t) h = rw (differing s t (λ e. h (ap suc e))) (and-false (eqb x y))
+
+pub same-next : (s t : List ℕ) (i : ℕ) → i < length s → i < length t
+    → sameBytes (drop i s) (drop i t) ≡ eqb (getD s i 0) (getD t i 0) && sameBytes (drop (i + 1) s) (drop (i + 1) t)
+unfolding sameBytes
+same-next s t i h k = rw (next s i h, next t i k)
+
+pub same-end : (s t : List ℕ) (i : ℕ) → length s ≤ i → length t ≤ i → sameBytes (drop i s) (drop i t) ≡ true
+unfolding sameBytes
+same-end s t i h k = rw (drop-of-length-le s h, drop-of-length-le t k)
+
+-- the test is equality
+pub same-equal : (s t : List ℕ) → sameBytes s t ≡ true → s ≡ t
+unfolding sameBytes
+same-equal [] [] e = refl
+same-equal [] (y ∷ t) e = absurd (false≢true e)
+same-equal (x ∷ s) [] e = absurd (false≢true e)
+same-equal (x ∷ s) (y ∷ t) e =
+    let b = both (eqb x y) (sameBytes s t) e in
+    ap₂ _∷_ (eqb-true x y (b .0)) (same-equal s t (b .1))
+
+pub equal-same : (s : List ℕ) → sameBytes s s ≡ true
+unfolding sameBytes
+equal-same [] = refl
+equal-same (x ∷ s) = rw (eq-eqb x x refl) (equal-same s)
+
+pub before-next : (s t : List ℕ) (i : ℕ) → i < length s → i < length t
+    → before (drop i s) (drop i t) ≡ ltb (getD s i 0) (getD t i 0) || (eqb (getD s i 0) (getD t i 0) && before (drop (i + 1) s) (drop (i + 1) t))
+unfolding before
+before-next s t i h k = rw (next s i h, next t i k)
+
+-- the second ends, and the first may go on
+pub before-short : (s t : List ℕ) (i : ℕ) → length t ≤ i → before (drop i s) (drop i t) ≡ false
+unfolding before
+before-short s t i h = rw (drop-of-length-le t h) (none (drop i s))
+  where
+    none : (u : List ℕ) → before u [] ≡ false
+    none [] = refl
+    none (x ∷ u) = refl
+
+-- the first ends, and the second goes on
+pub before-long : (s t : List ℕ) (i : ℕ) → length s ≤ i → i < length t → before (drop i s) (drop i t) ≡ true
+unfolding before
+before-long s t i h k = rw (drop-of-length-le s h, next t i k)
+
+-- the first has ended
+pub before-ended : (s t : List ℕ) (i : ℕ) → length s ≤ i → before (drop i s) (drop i t) ≡ ltb i (length t)
+before-ended s t i h = by (ltb i (length t)) refl
+  where
+    by : (b : Bool) → ltb i (length t) ≡ b → before (drop i s) (drop i t) ≡ b
+    by true e = before-long s t i h (ltb-true i (length t) e)
+    by false e = before-short s t i (ltb-false i (length t) e)
+
+-- the part between two positions
+pub part-between : (s : List ℕ) (at count start end : ℕ) → start ≡ at → end ≡ start + count → take (end - start) (drop start s) ≡ part s at count
+unfolding part
+part-between s at count start end e f =
+    let g : end - start ≡ count = omega arith in
+    ap₂ (λ (n k : ℕ). take n (drop k s)) g e

@@ -1,0 +1,28 @@
+-- What acceptance amounts to, for promises that rest on an accepted table or on a part of its rules.
+use Prim.Native.Nat.{ℕ, _+_, _*_, _≤_, _<_}
+use mathlib.Core.Bool.{true}
+use mathlib.Core.List.{List}
+use mathlib.Core.Path.{_≡_}
+use lib.ListN.{length}
+use Rattle.model.specs.Tree.{Tree, treeOf}
+use Rattle.model.specs.TableCheck.{countsBefore, nodeHolds, entryHolds, mountHolds, magicTargetHolds}
+
+-- what rules 1 and 3 say of an image's sizes
+pub record Sized (s : List ℕ) : Type 0 where
+  pub some-node : 1 ≤ treeOf s .nodes
+  pub few-nodes : treeOf s .nodes ≤ 4096
+  pub some-mount : 1 ≤ treeOf s .mounts
+  pub few-mounts : treeOf s .mounts ≤ 256
+  pub few-entries : treeOf s .entries ≤ 4096
+  pub small : length s ≤ 65536
+  pub whole : length s ≡ 20 + 12 * treeOf s .nodes + 8 * treeOf s .mounts + 8 * treeOf s .entries + treeOf s .textLength
+
+-- what rules 4 to 7 say of a tree: every record keeps its rule. A body's length is that of the bytes that were there to read.
+pub record Sound (t : Tree) : Type 0 where
+  pub some-mount : 0 < t .mounts
+  pub node-holds : (n : ℕ) → n < t .nodes → nodeHolds t n ≡ true
+  pub counts-sum : countsBefore t (t .nodes) ≡ t .entries
+  pub entry-holds : (e : ℕ) → e < t .entries → entryHolds t e ≡ true
+  pub mount-holds : (m : ℕ) → m < t .mounts → mountHolds t m ≡ true
+  pub target-holds : (n : ℕ) → n < t .nodes → magicTargetHolds t n ≡ true
+  pub body-length : (n : ℕ) → length (t .body n) ≤ t .count n
