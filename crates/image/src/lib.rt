@@ -2,5 +2,6 @@
 // as parts of the lent image. Each function is equated with the tree that the image stands for.
 pub mod bytes;
 pub mod records;
+pub mod search;
 pub mod strings;
 pub mod texts;

@@ -27,6 +27,13 @@ pub fn read_counts(image: &[u8]) -> Counts
     }
 }
 
+pub fn text_length(image: &[u8]) -> usize
+    requires { ⌜ 20 ≤ length (now image) ⌝ }
+    ensures { λ r. ⌜ (r ≡ treeOf (now (image .entry)) .textLength) × (r < 2 ^ 32) ⌝ }
+{
+    u32_at(image, 12)
+}
+
 // Where a node's record begins.
 fn node_at(image: &[u8], n: usize) -> usize
     requires { ⌜ Sized (now image) × (n < treeOf (now image) .nodes) ⌝ }
@@ -106,6 +113,14 @@ pub fn mount_point(image: &[u8], c: Counts, m: usize) -> usize
     ensures { λ r. ⌜ (r ≡ treeOf (now (image .entry)) .mountPoint m) × (r < 2 ^ 16) ⌝ }
 {
     u16_at(image, mount_at(image, c, m) + 4)
+}
+
+// A mount's point in its parent mount, both in one number, so that a search compares them at once.
+pub fn packed_point(image: &[u8], c: Counts, m: usize) -> usize
+    requires { ⌜ Counted (now image) c × (m < treeOf (now image) .mounts) ⌝ }
+    ensures { λ r. ⌜ (r ≡ treeOf (now (image .entry)) .mountParent m + 65536 * treeOf (now (image .entry)) .mountPoint m) × (treeOf (now (image .entry)) .mountParent m < 2 ^ 16) ⌝ }
+{
+    u32_at(image, mount_at(image, c, m) + 2)
 }
 
 pub fn mount_zero(image: &[u8], c: Counts, m: usize) -> usize

@@ -10,13 +10,13 @@ use native.Mathlib.Omega.{arith}
 use lib.Dec.{eqb, ltb, leb}
 use lib.ListN.{length, length-take}
 use borrow.Author.Tests.{ltb-true, leb-true, eqb-true, eq-eqb, not-true}
-use Rattle.model.specs.Bytes.{contains, part, find, firstFailing, orElse}
+use Rattle.model.specs.Bytes.{contains, sameBytes, ascii, part, find, firstFailing, orElse}
 use Rattle.model.specs.Tree.{Tree, treeOf, byKind, isDirectory, lookup, under, mountOn}
 use Rattle.model.specs.TableCheck.{unless, rule1, rule2, rule3, countsFit, wholeLength, directoryCount, countsBefore, directoryHolds, symlinkHolds, nodeHolds, rule4, nameHolds, ascends, standsInParent, entryHolds, rule5, pointHolds, sharesPoint, hangs, mountHolds, rule6, targetHolds, magicTargetHolds, rule7, breaks, recordsCheck, tableCheck}
 use Rattle.model.specs.declared.Place.{Place}
 use Rattle.model.specs.declared.Verdict.{Verdict}
 use Rattle.model.specs.declared.Verdict.the-variants.{Accepted, Broken}
-use Rattle.theorems.specs.Acceptance.{Sized, Sound}
+use Rattle.theorems.specs.Acceptance.{Sized, NodesHold, MountsHold, Sound}
 use Rattle.theorems.proofs.ByteLaws.{firstFailing-none, find-some}
 use Rattle.theorems.proofs.Cases.{some-not-none, both}
 
@@ -81,33 +81,44 @@ body-short : (s : List ℕ) (n : ℕ) → length (treeOf s .body n) ≤ treeOf s
 unfolding treeOf part
 body-short s n = simp length-take (omega arith)
 
+-- each rule's silence, as what it says of the records
+pub rule4-nodes : (t : Tree) → rule4 t ≡ none → NodesHold t
+unfolding rule4
+rule4-nodes t e =
+    let n = neither (firstFailing (nodeHolds t) (t .nodes)) (unless (eqb (countsBefore t (t .nodes)) (t .entries)) (t .nodes)) e in
+    record {
+      node-holds = firstFailing-none (nodeHolds t) (t .nodes) (n .0);
+      counts-sum = eqb-true _ _ (passed _ (t .nodes) (n .1));
+    }
+
+pub rule6-mounts : (t : Tree) → 0 < t .mounts → rule6 t ≡ none → MountsHold t
+unfolding rule6
+rule6-mounts t h e = record { some-mount = h; mount-holds = firstFailing-none (mountHolds t) (t .mounts) e }
+
 pub accepted-sound : (s : List ℕ) → tableCheck s ≡ Accepted → Sound (treeOf s)
-unfolding tableCheck rule3 rule4 rule5 rule6 rule7
+unfolding tableCheck rule5 rule7
 accepted-sound s e =
     let t = treeOf s in
     let r1 = unbroken 1 (rule1 s) (breaks 2 (rule2 s) (breaks 3 (rule3 s) (recordsCheck t))) e in
     let r2 = unbroken 2 (rule2 s) (breaks 3 (rule3 s) (recordsCheck t)) (r1 .1) in
     let r3 = unbroken 3 (rule3 s) (recordsCheck t) (r2 .1) in
     let r = unbroken-records t (r3 .1) in
-    let n = neither (firstFailing (nodeHolds t) (t .nodes)) (unless (eqb (countsBefore t (t .nodes)) (t .entries)) (t .nodes)) (r .four) in
     record {
-      some-mount = rules-sized s (r1 .0) (r3 .0) .some-mount;
-      node-holds = firstFailing-none (nodeHolds t) (t .nodes) (n .0);
-      counts-sum = eqb-true _ _ (passed _ (t .nodes) (n .1));
+      nodes-hold = rule4-nodes t (r .four);
       entry-holds = firstFailing-none (entryHolds t) (t .entries) (r .five);
-      mount-holds = firstFailing-none (mountHolds t) (t .mounts) (r .six);
+      mounts-hold = rule6-mounts t (rules-sized s (r1 .0) (r3 .0) .some-mount) (r .six);
       target-holds = firstFailing-none (magicTargetHolds t) (t .nodes) (r .seven);
       body-length = λ n. body-short s n;
     }
 
--- what a sound tree's records say of one another
-module _ (t : Tree) (sound : Sound t) where
+-- what the nodes say of one another
+module _ (t : Tree) (nodes : NodesHold t) where
   -- a directory's own rule
   pub directory-rule : (n : ℕ) → isDirectory t n ≡ true → directoryHolds t n ≡ true
   unfolding isDirectory nodeHolds
   directory-rule n d =
       let b = both (ltb n (t .nodes)) (eqb (t .kind n) 1) d in
-      let h = sound .node-holds n (ltb-true _ _ (b .0)) in
+      let h = nodes .node-holds n (ltb-true _ _ (b .0)) in
       rw (b .1) at h
 
   pub directory-below : (n : ℕ) → isDirectory t n ≡ true → n < t .nodes
@@ -147,7 +158,7 @@ module _ (t : Tree) (sound : Sound t) where
   -- a directory's entries lie among the table's
   pub entries-inside : (n : ℕ) → isDirectory t n ≡ true → t .first n + t .count n ≤ t .entries
   entries-inside n d =
-      omega (arith, first-sum n d, counts-next n (directory-kind n d), counts-grow (suc n) (t .nodes) (directory-below n d), sound .counts-sum)
+      omega (arith, first-sum n d, counts-next n (directory-kind n d), counts-grow (suc n) (t .nodes) (directory-below n d), nodes .counts-sum)
 
   pub lookup-inside : (n : ℕ) (name : List ℕ) (e : ℕ) → isDirectory t n ≡ true → lookup t n name ≡ some e → e < t .entries
   unfolding lookup
@@ -155,23 +166,26 @@ module _ (t : Tree) (sound : Sound t) where
       let l = find-some _ (t .first n) (t .count n) e f in
       omega (arith, l .below, entries-inside n d)
 
-  -- what rule 5 says of an entry
-  pub entry-facts : (e : ℕ) → e < t .entries
-      → (nameHolds t e ≡ true) × (t .entryNode e < t .nodes) × (ascends t e ≡ true) × (standsInParent t e ≡ true)
-  unfolding entryHolds
-  entry-facts e h =
-      let a = both (nameHolds t e && ltb (t .entryNode e) (t .nodes) && ascends t e) (standsInParent t e) (sound .entry-holds e h) in
-      let b = both (nameHolds t e && ltb (t .entryNode e) (t .nodes)) (ascends t e) (a .0) in
-      let c = both (nameHolds t e) (ltb (t .entryNode e) (t .nodes)) (b .0) in
-      (c .0, ltb-true _ _ (c .1), b .1, a .1)
+  -- what rule 4 says of a symbolic link
+  pub symlink-facts : (n : ℕ) → n < t .nodes → t .kind n ≡ 3
+      → (t .first n + t .count n ≤ t .textLength) × (1 ≤ t .count n) × (t .count n ≤ 4095) × (contains 0 (t .body n) ≡ false)
+  unfolding nodeHolds symlinkHolds
+  symlink-facts n h k =
+      let a = both (eqb (t .parent n) 0 && leb (t .first n + t .count n) (t .textLength) && leb 1 (t .count n) && leb (t .count n) 4095) (not (contains 0 (t .body n))) (rw k at (nodes .node-holds n h)) in
+      let b = both (eqb (t .parent n) 0 && leb (t .first n + t .count n) (t .textLength) && leb 1 (t .count n)) (leb (t .count n) 4095) (a .0) in
+      let c = both (eqb (t .parent n) 0 && leb (t .first n + t .count n) (t .textLength)) (leb 1 (t .count n)) (b .0) in
+      let d = both (eqb (t .parent n) 0) (leb (t .first n + t .count n) (t .textLength)) (c .0) in
+      (leb-true _ _ (d .1), leb-true _ _ (c .1), leb-true _ _ (b .1), not-true _ (a .1))
 
+-- what the mounts say of one another
+module _ (t : Tree) (mounts : MountsHold t) where
   pub root-directory : (m : ℕ) → m < t .mounts → isDirectory t (t .mountRoot m) ≡ true
   unfolding mountHolds
-  root-directory m h = both (isDirectory t (t .mountRoot m)) _ (both (isDirectory t (t .mountRoot m) && eqb (t .mountZero m) 0) _ (sound .mount-holds m h) .0) .0
+  root-directory m h = both (isDirectory t (t .mountRoot m)) _ (both (isDirectory t (t .mountRoot m) && eqb (t .mountZero m) 0) _ (mounts .mount-holds m h) .0) .0
 
   mount-hangs : (m : ℕ) → m < t .mounts → hangs t m ≡ true
   unfolding mountHolds
-  mount-hangs m h = both (isDirectory t (t .mountRoot m) && eqb (t .mountZero m) 0) _ (sound .mount-holds m h) .1
+  mount-hangs m h = both (isDirectory t (t .mountRoot m) && eqb (t .mountZero m) 0) _ (mounts .mount-holds m h) .1
 
   -- mount 0 is its own parent, at its own root
   mount-0 : 0 < t .mounts → (t .mountParent 0 ≡ 0) × (t .mountPoint 0 ≡ t .mountRoot 0)
@@ -199,11 +213,45 @@ module _ (t : Tree) (sound : Sound t) where
   mount-parent-below zero h = omega (arith, mount-0 h .0)
   mount-parent-below (suc m) h = omega (arith, mount-above m h .0)
 
-  pub mount-on-below : (p : Place) (m : ℕ) → mountOn t p ≡ some m → (1 ≤ m) × (m < t .mounts)
-  unfolding mountOn
-  mount-on-below p m f =
-      let l = find-some _ 1 (t .mounts - 1) m f in
-      (l .from, omega (arith, l .below, l .from))
+pub mount-on-below : (t : Tree) (p : Place) (m : ℕ) → mountOn t p ≡ some m → (1 ≤ m) × (m < t .mounts)
+unfolding mountOn
+mount-on-below t p m f =
+    let l = find-some _ 1 (t .mounts - 1) m f in
+    (l .from, omega (arith, l .below, l .from))
+
+-- what a name that keeps rule 5 says
+pub name-holds-facts : (t : Tree) (e : ℕ) → nameHolds t e ≡ true
+    → (t .nameOffset e + t .nameLength e ≤ t .textLength) × (1 ≤ t .nameLength e) × (t .nameLength e ≤ 255)
+unfolding nameHolds
+name-holds-facts t e h =
+    let l = leb (t .nameOffset e + t .nameLength e) (t .textLength) in
+    let zero = not (contains 0 (t .name e)) in
+    let slash = not (contains 47 (t .name e)) in
+    let dot = not (sameBytes (t .name e) (ascii ".")) in
+    let a = both (l && leb 1 (t .nameLength e) && leb (t .nameLength e) 255 && zero && slash && dot) (not (sameBytes (t .name e) (ascii ".."))) h in
+    let b = both (l && leb 1 (t .nameLength e) && leb (t .nameLength e) 255 && zero && slash) dot (a .0) in
+    let c = both (l && leb 1 (t .nameLength e) && leb (t .nameLength e) 255 && zero) slash (b .0) in
+    let d = both (l && leb 1 (t .nameLength e) && leb (t .nameLength e) 255) zero (c .0) in
+    let f = both (l && leb 1 (t .nameLength e)) (leb (t .nameLength e) 255) (d .0) in
+    let g = both l (leb 1 (t .nameLength e)) (f .0) in
+    (leb-true _ _ (g .0), leb-true _ _ (g .1), leb-true _ _ (f .1))
+
+-- what an accepted table's entries and links say
+module _ (t : Tree) (sound : Sound t) where
+  -- what rule 5 says of an entry
+  pub entry-facts : (e : ℕ) → e < t .entries
+      → (nameHolds t e ≡ true) × (t .entryNode e < t .nodes) × (ascends t e ≡ true) × (standsInParent t e ≡ true)
+  unfolding entryHolds
+  entry-facts e h =
+      let a = both (nameHolds t e && ltb (t .entryNode e) (t .nodes) && ascends t e) (standsInParent t e) (sound .entry-holds e h) in
+      let b = both (nameHolds t e && ltb (t .entryNode e) (t .nodes)) (ascends t e) (a .0) in
+      let c = both (nameHolds t e) (ltb (t .entryNode e) (t .nodes)) (b .0) in
+      (c .0, ltb-true _ _ (c .1), b .1, a .1)
+
+  -- an accepted entry's name lies in the text, and has 1 to 255 bytes
+  pub name-facts : (e : ℕ) → e < t .entries
+      → (t .nameOffset e + t .nameLength e ≤ t .textLength) × (1 ≤ t .nameLength e) × (t .nameLength e ≤ 255)
+  name-facts e h = name-holds-facts t e (entry-facts e h .0)
 
   pub target-inside : (n : ℕ) → n < t .nodes → t .kind n ≡ 4 → (t .first n < t .mounts) × (t .count n < t .nodes)
   unfolding magicTargetHolds targetHolds
@@ -212,16 +260,5 @@ module _ (t : Tree) (sound : Sound t) where
       let b = both _ _ (both _ _ e .0) in
       (ltb-true _ _ (b .0), ltb-true _ _ (b .1))
 
-  -- what rule 4 says of a symbolic link
-  pub symlink-facts : (n : ℕ) → n < t .nodes → t .kind n ≡ 3
-      → (t .first n + t .count n ≤ t .textLength) × (1 ≤ t .count n) × (t .count n ≤ 4095) × (contains 0 (t .body n) ≡ false)
-  unfolding nodeHolds symlinkHolds
-  symlink-facts n h k =
-      let a = both (eqb (t .parent n) 0 && leb (t .first n + t .count n) (t .textLength) && leb 1 (t .count n) && leb (t .count n) 4095) (not (contains 0 (t .body n))) (rw k at (sound .node-holds n h)) in
-      let b = both (eqb (t .parent n) 0 && leb (t .first n + t .count n) (t .textLength) && leb 1 (t .count n)) (leb (t .count n) 4095) (a .0) in
-      let c = both (eqb (t .parent n) 0 && leb (t .first n + t .count n) (t .textLength)) (leb 1 (t .count n)) (b .0) in
-      let d = both (eqb (t .parent n) 0) (leb (t .first n + t .count n) (t .textLength)) (c .0) in
-      (leb-true _ _ (d .1), leb-true _ _ (c .1), leb-true _ _ (b .1), not-true _ (a .1))
-
   pub body-small : (n : ℕ) → n < t .nodes → t .kind n ≡ 3 → length (t .body n) ≤ 4095
-  body-small n h k = le-trans (sound .body-length n) (symlink-facts n h k .2)
+  body-small n h k = le-trans (sound .body-length n) (symlink-facts t (sound .nodes-hold) n h k .2)

@@ -165,7 +165,7 @@ resolve-bounded-by image h path how none e u =
     let un = unrefused image h path how e in
     let sound = accepted-sound image (un .table-passes) in
     let handle = handle-inside (treeOf image) h (un .handle-passes) in
-    let root = cond-cases (Inside (treeOf image)) (has IN-ROOT (resolveOf how)) (placeOf h) (rootOf (treeOf image) 0) (λ _. handle) (λ _. root-inside (treeOf image) sound 0 (sound .some-mount)) in
+    let root = cond-cases (Inside (treeOf image)) (has IN-ROOT (resolveOf how)) (placeOf h) (rootOf (treeOf image) 0) (λ _. handle) (λ _. root-inside (treeOf image) sound 0 (sound .mounts-hold .some-mount)) in
     answer-within (restrictions h how) (traceOf image h path how)
     (path-within (requestOf image h path how) sound root (has O-DIRECTORY (flagsOf how) || endsInSlash path) path (path-short path (un .path-passes)) handle)
 

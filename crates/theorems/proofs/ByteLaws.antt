@@ -11,7 +11,7 @@ use mathlib.Core.Logic.{_⊎_, inl, inr, ⊎-elim}
 use borrow.Author.Tests.{not-false}
 use lib.ListN.{getD, length}
 use lib.Dec.{eqb}
-use Rattle.model.specs.Bytes.{field, fieldBytes, find, firstFailing}
+use Rattle.model.specs.Bytes.{field, fieldBytes, find, firstFailing, orElse}
 use Rattle.theorems.proofs.Cases.{some-not-none}
 
 -- a field is the same where its bytes are
@@ -101,3 +101,48 @@ find-some p at (suc count) k e =
 pub firstFailing-none : (p : ℕ → Bool) (count : ℕ) → firstFailing p count ≡ none → (i : ℕ) → i < count → p i ≡ true
 unfolding firstFailing
 firstFailing-none p count e i h = not-false (p i) (find-none (λ n. not (p n)) 0 count e i (omega arith) (omega arith))
+
+-- a search from `at` up to `end`, one number at a time
+module _ (p : ℕ → Bool) (at end : ℕ) where
+  find-step : at < end → find p at (end - at) ≡ cond (p at) (some at) (find p (at + 1) (end - (at + 1)))
+  unfolding find
+  find-step h =
+      let e : end - at ≡ suc (end - (at + 1)) = omega arith in
+      let f : suc at ≡ at + 1 = omega arith in
+      rw (e, f)
+
+  pub find-here : at < end → p at ≡ true → find p at (end - at) ≡ some at
+  find-here h e = find-step h ∙ rw e
+
+  pub find-on : at < end → p at ≡ false → find p at (end - at) ≡ find p (at + 1) (end - (at + 1))
+  find-on h e = find-step h ∙ rw e
+
+  pub find-done : end ≤ at → find p at (end - at) ≡ none
+  unfolding find
+  find-done h = let e : end - at ≡ 0 = omega arith in rw e
+
+-- a search over two ranges, one after the other
+pub find-append : (p : ℕ → Bool) (at low high : ℕ) → find p at (low + high) ≡ orElse (find p at low) (find p (at + low) high)
+unfolding find
+find-append p at zero high = rw (zero-add high, add-zero at)
+find-append p at (suc low) high =
+    let e : at + suc low ≡ suc at + low = omega arith in
+    rw (suc-add low high, e, find-append p (suc at) low high) (by (p at))
+  where
+    by : (b : Bool) → cond b (some at) (orElse (find p (suc at) low) (find p (suc at + low) high)) ≡ orElse (cond b (some at) (find p (suc at) low)) (find p (suc at + low) high)
+    by true = refl
+    by false = refl
+
+-- a field of real bytes has no more digits than its width
+pub field-lt : (width : ℕ) (s : List ℕ) (at : ℕ) → ((i : ℕ) → getD s i 0 < 256) → field width s at < 256 ^ width
+unfolding field
+field-lt zero s at bytes = omega arith
+field-lt (suc width) s at bytes =
+    let later = field-lt width s (at + 1) bytes in
+    rw (pow-suc 256 width) (omega (arith, bytes at))
+
+-- two fields of two bytes, side by side, read as one
+pub field-pair : (s : List ℕ) (x at : ℕ) → x ≡ at → field 4 s (x + 2) ≡ field 2 s (at + 2) + 65536 * field 2 s (at + 4)
+field-pair s x at e =
+    let f : at + 2 + 2 ≡ at + 4 = omega arith in
+    ap (λ (k : ℕ). field 4 s (k + 2)) e ∙ field-split 2 2 s (at + 2) ∙ ap (λ (k : ℕ). field 2 s (at + 2) + 65536 * field 2 s k) f

@@ -25,11 +25,11 @@ pub record Inside (t : Tree) (p : Place) : Type 0 where
 module _ (t : Tree) (sound : Sound t) where
   pub root-inside : (m : ℕ) → m < t .mounts → Inside t (rootOf t m)
   unfolding rootOf
-  root-inside m h = record { mount-below = h; node-below = directory-below t sound (t .mountRoot m) (root-directory t sound m h) }
+  root-inside m h = record { mount-below = h; node-below = directory-below t (sound .nodes-hold) (t .mountRoot m) (root-directory t (sound .mounts-hold) m h) }
 
   enter-by-inside : (p : Place) (o : Option ℕ) → mountOn t p ≡ o → Inside t p → Inside t (enterBy t p o .place)
   enter-by-inside p none e h = h
-  enter-by-inside p (some m) e h = root-inside m (mount-on-below t sound p m e .1)
+  enter-by-inside p (some m) e h = root-inside m (mount-on-below t p m e .1)
 
   pub enter-inside : (p : Place) → Inside t p → Inside t (enter t p .place)
   unfolding enter
@@ -39,14 +39,14 @@ module _ (t : Tree) (sound : Sound t) where
   unfolding toParent
   to-parent-inside p m d =
       enter-inside (placeAt (p .mount) (t .parent (p .node)))
-      (record { mount-below = m; node-below = directory-below t sound (t .parent (p .node)) (parent-directory t sound (p .node) d) })
+      (record { mount-below = m; node-below = directory-below t (sound .nodes-hold) (t .parent (p .node)) (parent-directory t (sound .nodes-hold) (p .node) d) })
 
   climb-inside : (p : Place) → Inside t p → isDirectory t (p .node) ≡ true → Inside t (climb t p .place)
   unfolding climb pointOf
   climb-inside p h d =
       cond-cases (λ (m : Move). Inside t (m .place)) (eqb (p .node) (t .mountRoot (p .mount))) _ _
       (λ _. to-parent-inside (placeAt (t .mountParent (p .mount)) (t .mountPoint (p .mount)))
-      (mount-parent-below t sound (p .mount) (h .mount-below)) (point-directory t sound (p .mount) (h .mount-below)))
+      (mount-parent-below t (sound .mounts-hold) (p .mount) (h .mount-below)) (point-directory t (sound .mounts-hold) (p .mount) (h .mount-below)))
       (λ _. to-parent-inside p (h .mount-below) d)
 
   after-if-inside : (b : Bool) (e : Event) (m : Move) → Inside t (m .place) → Inside t (afterIf b e m .place)
@@ -100,7 +100,7 @@ module _ (a : Request) (sound : Sound (a .tree)) (root : Inside (a .tree) (a .ro
   step-by-inside : (name : List ℕ) (o : Option ℕ) → lookup (a .tree) (p .node) name ≡ o → StepInside (a .tree) (stepBy a last p o)
   step-by-inside name none e = tt
   step-by-inside name (some i) e =
-      step-to-inside (a .tree .entryNode i) (entry-facts (a .tree) sound i (lookup-inside (a .tree) sound (p .node) name i d e) .1)
+      step-to-inside (a .tree .entryNode i) (entry-facts (a .tree) sound i (lookup-inside (a .tree) (sound .nodes-hold) (p .node) name i d e) .1)
 
   by-name-inside : (name : List ℕ) → StepInside (a .tree) (byName a last p name)
   unfolding byName

@@ -4,6 +4,7 @@ pub mod ByteLaws
 pub mod BitLaws
 pub mod StringLaws
 pub mod Acceptance
+pub mod UnderLaws
 pub mod Inside
 pub mod Refusals
 pub mod OnlyStops

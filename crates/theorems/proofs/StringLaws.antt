@@ -1,5 +1,5 @@
 -- Laws of byte strings, one byte at a time from a position on. Assumes nothing.
-use Prim.Native.Nat.{ℕ, zero, suc, _+_, _-_, _≤_, _<_}
+use Prim.Native.Nat.{ℕ, zero, suc, _+_, _-_, _*_, _^_, _≤_, _<_}
 use mathlib.Core.Bool.{Bool, true, false, _&&_, _||_, or-true, or-false, and-false, false≢true}
 use mathlib.Core.List.{List, [], _∷_}
 use mathlib.Core.Path.{_≡_, refl, sym, ap, ap₂, _∙_}
@@ -100,3 +100,18 @@ unfolding part
 part-between s at count start end e f =
     let g : end - start ≡ count = omega arith in
     ap₂ (λ (n k : ℕ). take n (drop k s)) g e
+
+-- two numbers of 16 bits in one: the same where both are
+pub packed-same : (a b x y : ℕ) → a < 2 ^ 16 → x < 2 ^ 16 → a + 65536 * b ≡ x + 65536 * y → (eqb a x && eqb b y) ≡ true
+packed-same a b x y ha hx e =
+    let p : a ≡ x = omega arith in
+    let q : b ≡ y = omega arith in
+    rw (eq-eqb a x p, eq-eqb b y q)
+
+pub packed-other : (a b x y : ℕ) → (a + 65536 * b ≡ x + 65536 * y → ⊥) → (eqb a x && eqb b y) ≡ false
+packed-other a b x y h = by (eqb a x) (eqb b y) refl refl
+  where
+    by : (p q : Bool) → eqb a x ≡ p → eqb b y ≡ q → (p && q) ≡ false
+    by false q e f = refl
+    by true false e f = refl
+    by true true e f = absurd (h (ap₂ (λ (m n : ℕ). m + 65536 * n) (eqb-true a x e) (eqb-true b y f)))

@@ -17,12 +17,20 @@ pub record Sized (s : List ℕ) : Type 0 where
   pub small : length s ≤ 65536
   pub whole : length s ≡ 20 + 12 * treeOf s .nodes + 8 * treeOf s .mounts + 8 * treeOf s .entries + treeOf s .textLength
 
--- what rules 4 to 7 say of a tree: every record keeps its rule. A body's length is that of the bytes that were there to read.
-pub record Sound (t : Tree) : Type 0 where
-  pub some-mount : 0 < t .mounts
+-- what rule 4 says of a tree: every node record keeps it, and the directories' counts sum to E
+pub record NodesHold (t : Tree) : Type 0 where
   pub node-holds : (n : ℕ) → n < t .nodes → nodeHolds t n ≡ true
   pub counts-sum : countsBefore t (t .nodes) ≡ t .entries
-  pub entry-holds : (e : ℕ) → e < t .entries → entryHolds t e ≡ true
+
+-- what rule 6 says of it
+pub record MountsHold (t : Tree) : Type 0 where
+  pub some-mount : 0 < t .mounts
   pub mount-holds : (m : ℕ) → m < t .mounts → mountHolds t m ≡ true
+
+-- what rules 4 to 7 say of it: every record keeps its rule. A body's length is that of the bytes that were there to read.
+pub record Sound (t : Tree) : Type 0 where
+  pub nodes-hold : NodesHold t
+  pub entry-holds : (e : ℕ) → e < t .entries → entryHolds t e ≡ true
+  pub mounts-hold : MountsHold t
   pub target-holds : (n : ℕ) → n < t .nodes → magicTargetHolds t n ≡ true
   pub body-length : (n : ℕ) → length (t .body n) ≤ t .count n

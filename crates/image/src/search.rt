@@ -1,0 +1,5 @@
+// What a search by number finds.
+pub enum Search {
+    At(usize),
+    Nowhere,
+}

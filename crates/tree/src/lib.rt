@@ -1,0 +1,68 @@
+// Searches over the tree: a name in a directory, the mount on a place, and whether a directory is under a root.
+use image::records::Counts;
+use image::records::node_count;
+use image::records::node_first;
+use image::records::node_parent;
+use image::records::packed_point;
+use image::search::Search;
+use image::strings::same;
+use image::texts::name;
+ghost use mathlib.Core.Bool.{true};
+ghost use mathlib.Core.Path.{_≡_};
+ghost use Prim.Native.Nat.{ℕ, _<_};
+ghost use Rattle.model.specs.Tree.{treeOf, isDirectory, under, lookup, mountOn};
+ghost use Rattle.model.specs.TableCheck.{tableCheck};
+ghost use Rattle.model.specs.Walk.{placeAt};
+ghost use Rattle.model.specs.declared.Verdict.the-variants.{Accepted};
+ghost use Rattle.theorems.specs.Acceptance.{Sized, NodesHold};
+ghost use Rattle.image.specs.Counts.{Counted};
+ghost use Rattle.image.specs.Searches.{searchOf};
+
+// Whether following parents from a directory meets the root. The nodes keep rule 4, so parents fall.
+pub fn is_under(image: &[u8], n: usize, root: usize) -> bool
+    requires { ⌜ Sized (now image) × NodesHold (treeOf (now image)) × (isDirectory (treeOf (now image)) n ≡ true) ⌝ }
+    ensures { λ r. ⌜ r ≡ under (treeOf (now (image .entry))) n root ⌝ }
+{
+    let mut k = n;
+    while root < k {
+        let parent = node_parent(image, k);
+        if parent == k {
+            return false;
+        }
+        k = parent;
+    }
+    k == root
+}
+
+// The entry of a name in a directory.
+pub fn find_entry(image: &[u8], c: Counts, n: usize, wanted: &[u8]) -> Search
+    requires { ⌜ Counted (now image) c × (tableCheck (now image) ≡ Accepted) × (isDirectory (treeOf (now image)) n ≡ true) ⌝ }
+    ensures { λ r. ⌜ r ≡ searchOf (lookup (treeOf (now (image .entry))) n (now (wanted .entry))) ⌝ }
+{
+    let mut e = node_first(image, n);
+    let end = e + node_count(image, n);
+    while e < end {
+        if same(name(image, c, e), wanted) {
+            return Search::At(e);
+        }
+        e += 1;
+    }
+    Search::Nowhere
+}
+
+// The mount whose point is a place.
+pub fn find_mount(image: &[u8], c: Counts, mount: usize, node: usize) -> Search
+    requires { ⌜ Counted (now image) c × (tableCheck (now image) ≡ Accepted) × (mount < treeOf (now image) .mounts) × (node < treeOf (now image) .nodes) ⌝ }
+    ensures { λ r. ⌜ r ≡ searchOf (mountOn (treeOf (now (image .entry))) (placeAt mount node)) ⌝ }
+{
+    let wanted = mount + 65536 * node;
+    let end = c.mounts;
+    let mut m = 1;
+    while m < end {
+        if packed_point(image, c, m) == wanted {
+            return Search::At(m);
+        }
+        m += 1;
+    }
+    Search::Nowhere
+}
