@@ -89,11 +89,7 @@ fn directory_count(image: &[u8], n: usize, kind: usize) -> usize
     requires { ⌜ Sized (now image) × (n < treeOf (now image) .nodes) × (kind ≡ treeOf (now image) .kind n) ⌝ }
     ensures { λ r. ⌜ (r ≡ directoryCount (treeOf (now (image .entry))) n) × (r < 4294967296) ⌝ }
 {
-    if kind == 1 {
-        node_count(image, n)
-    } else {
-        0
-    }
+    if kind == 1 { node_count(image, n) } else { 0 }
 }
 
 pub fn first_bad_node(image: &[u8], c: Counts, text: usize) -> Search

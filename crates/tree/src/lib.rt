@@ -2,6 +2,7 @@
 use image::records::Counts;
 use image::records::node_count;
 use image::records::node_first;
+use image::records::node_kind;
 use image::records::node_parent;
 use image::records::packed_point;
 use image::search::Search;
@@ -17,6 +18,16 @@ ghost use Rattle.model.specs.declared.Verdict.the-variants.{Accepted};
 ghost use Rattle.theorems.specs.Acceptance.{Sized, NodesHold};
 ghost use Rattle.image.specs.Counts.{Counted};
 ghost use Rattle.image.specs.Searches.{searchOf};
+
+pub fn is_directory(image: &[u8], c: Counts, n: usize) -> bool
+    requires { ⌜ Counted (now image) c ⌝ }
+    ensures { λ r. ⌜ r ≡ isDirectory (treeOf (now (image .entry))) n ⌝ }
+{
+    if c.nodes <= n {
+        return false;
+    }
+    node_kind(image, n) == 1
+}
 
 // Whether following parents from a directory meets the root. The nodes keep rule 4, so parents fall.
 pub fn is_under(image: &[u8], n: usize, root: usize) -> bool
