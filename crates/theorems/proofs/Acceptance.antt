@@ -8,10 +8,10 @@ use mathlib.Core.Logic.{⊎-elim}
 use native.Mathlib.Nat.{le-of-eq, le-trans, le-of-suc-le-suc, eq-or-lt-of-le}
 use native.Mathlib.Omega.{arith}
 use lib.Dec.{eqb, ltb, leb}
-use lib.ListN.{length, length-take}
+use lib.ListN.{length, length-take, length-drop}
 use borrow.Author.Tests.{ltb-true, leb-true, eqb-true, eq-eqb, not-true}
 use Rattle.model.specs.Bytes.{contains, sameBytes, ascii, part, find, firstFailing, orElse}
-use Rattle.model.specs.Tree.{Tree, treeOf, byKind, isDirectory, lookup, under, mountOn}
+use Rattle.model.specs.Tree.{Tree, treeOf, mountAt, entryAt, textAt, byKind, isDirectory, lookup, under, mountOn}
 use Rattle.model.specs.TableCheck.{unless, rule1, rule2, rule3, countsFit, wholeLength, directoryCount, countsBefore, directoryHolds, symlinkHolds, nodeHolds, rule4, nameHolds, ascends, standsInParent, entryHolds, rule5, pointHolds, sharesPoint, hangs, mountHolds, rule6, targetHolds, magicTargetHolds, rule7, breaks, recordsCheck, tableCheck}
 use Rattle.model.specs.declared.Place.{Place}
 use Rattle.model.specs.declared.Verdict.{Verdict}
@@ -142,7 +142,7 @@ module _ (t : Tree) (nodes : NodesHold t) where
   unfolding directoryHolds
   first-sum n d = eqb-true _ _ (both (isDirectory t (t .parent n) && leb (t .parent n) n) _ (directory-rule n d) .1)
 
-  counts-grow : (n m : ℕ) → n ≤ m → countsBefore t n ≤ countsBefore t m
+  pub counts-grow : (n m : ℕ) → n ≤ m → countsBefore t n ≤ countsBefore t m
   unfolding countsBefore
   counts-grow n zero h = le-of-eq (let e : n ≡ 0 = omega arith in ap (countsBefore t) e)
   counts-grow n (suc m) h =
@@ -151,7 +151,7 @@ module _ (t : Tree) (nodes : NodesHold t) where
       (λ l. omega (arith, counts-grow n m (le-of-suc-le-suc l)))
       (eq-or-lt-of-le h)
 
-  counts-next : (n : ℕ) → t .kind n ≡ 1 → countsBefore t (suc n) ≡ countsBefore t n + t .count n
+  pub counts-next : (n : ℕ) → t .kind n ≡ 1 → countsBefore t (suc n) ≡ countsBefore t n + t .count n
   unfolding countsBefore directoryCount
   counts-next n k = rw (eq-eqb (t .kind n) 1 k)
 
@@ -262,3 +262,22 @@ module _ (t : Tree) (sound : Sound t) where
 
   pub body-small : (n : ℕ) → n < t .nodes → t .kind n ≡ 3 → length (t .body n) ≤ 4095
   body-small n h k = le-trans (sound .body-length n) (symlink-facts t (sound .nodes-hold) n h k .2)
+
+-- a name or a body that lies inside the text has its full length
+part-whole : (s : List ℕ) (at count : ℕ) → at + count ≤ length s → length (part s at count) ≡ count
+unfolding part
+part-whole s at count h = simp (length-take, length-drop) (omega arith)
+
+text-end : (s : List ℕ) → Sized s → textAt s + treeOf s .textLength ≡ length s
+unfolding textAt entryAt mountAt treeOf
+text-end s z = omega (arith, z .whole)
+
+pub name-whole : (s : List ℕ) (e : ℕ) → Sized s → treeOf s .nameOffset e + treeOf s .nameLength e ≤ treeOf s .textLength
+    → length (treeOf s .name e) ≡ treeOf s .nameLength e
+unfolding treeOf
+name-whole s e z h = part-whole s _ _ (omega (arith, text-end s z))
+
+pub body-whole : (s : List ℕ) (n : ℕ) → Sized s → treeOf s .first n + treeOf s .count n ≤ treeOf s .textLength
+    → length (treeOf s .body n) ≡ treeOf s .count n
+unfolding treeOf
+body-whole s n z h = part-whole s _ _ (omega (arith, text-end s z))

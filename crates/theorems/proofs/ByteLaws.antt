@@ -1,6 +1,6 @@
 -- Laws of the readings and searches of specs/Bytes.antt. Assumes nothing.
 use Prim.Native.Nat.{ℕ, zero, suc, _+_, _-_, _*_, _/_, _%_, _^_, _≤_, _<_}
-use mathlib.Core.Bool.{Bool, true, false, cond, not}
+use mathlib.Core.Bool.{Bool, true, false, cond, not, true≢false}
 use mathlib.Core.List.{List, [], _∷_, _++_}
 use mathlib.Core.Option.{Option, none, some}
 use mathlib.Core.Path.{_≡_, refl, sym, ap, _∙_}
@@ -11,7 +11,7 @@ use mathlib.Core.Logic.{_⊎_, inl, inr, ⊎-elim}
 use borrow.Author.Tests.{not-false}
 use lib.ListN.{getD, length}
 use lib.Dec.{eqb}
-use Rattle.model.specs.Bytes.{field, fieldBytes, find, firstFailing, orElse}
+use Rattle.model.specs.Bytes.{field, fieldBytes, find, firstFailing, orElse, isSome}
 use Rattle.theorems.proofs.Cases.{some-not-none}
 
 -- a field is the same where its bytes are
@@ -146,3 +146,19 @@ pub field-pair : (s : List ℕ) (x at : ℕ) → x ≡ at → field 4 s (x + 2) 
 field-pair s x at e =
     let f : at + 2 + 2 ≡ at + 4 = omega arith in
     ap (λ (k : ℕ). field 4 s (k + 2)) e ∙ field-split 2 2 s (at + 2) ∙ ap (λ (k : ℕ). field 2 s (at + 2) + 65536 * field 2 s k) f
+
+-- a number in the range that passes is enough for a search to find one
+pub find-exists : (p : ℕ → Bool) (at count k : ℕ) → at ≤ k → k < at + count → p k ≡ true → isSome (find p at count) ≡ true
+find-exists p at count k l u e = by (find p at count) refl
+  where
+    by : (o : Option ℕ) → find p at count ≡ o → isSome o ≡ true
+    by (some i) f = refl
+    by none f = absurd (true≢false (sym e ∙ find-none p at count f k l u))
+
+-- and where none passes it finds nothing
+pub find-absent : (p : ℕ → Bool) (at count : ℕ) → ((i : ℕ) → at ≤ i → i < at + count → p i ≡ false) → find p at count ≡ none
+find-absent p at count h = by (find p at count) refl
+  where
+    by : (o : Option ℕ) → find p at count ≡ o → find p at count ≡ none
+    by none f = f
+    by (some k) f = let l = find-some p at count k f in absurd (true≢false (sym (l .passes) ∙ h k (l .from) (l .below)))

@@ -1,5 +1,8 @@
 -- Going by cases on tests and options. Assumes nothing.
-use Prim.Native.Nat.{ℕ}
+use Prim.Native.Nat.{ℕ, _≤_, _<_}
+use mathlib.Core.Logic.{_⊎_, inl, inr}
+use borrow.Author.Tests.{ltb-true, ltb-false}
+use lib.Dec.{ltb}
 use mathlib.Core.Bool.{Bool, true, false, cond, _&&_, _||_, true≢false, false≢true}
 use mathlib.Core.Option.{Option, none, some}
 use mathlib.Core.Path.{_≡_, refl}
@@ -23,3 +26,11 @@ first-of false false e f = absurd (false≢true e)
 pub cond-cases : {A : Type 0} (P : A → Type 0) (b : Bool) (x y : A) → (b ≡ true → P x) → (b ≡ false → P y) → P (cond b x y)
 cond-cases P true x y px py = px refl
 cond-cases P false x y px py = py refl
+
+-- one number is below another, or not
+pub below-or : (m n : ℕ) → (m < n) ⊎ (n ≤ m)
+below-or m n = by (ltb m n) refl
+  where
+    by : (b : Bool) → ltb m n ≡ b → (m < n) ⊎ (n ≤ m)
+    by true e = inl (ltb-true m n e)
+    by false e = inr (ltb-false m n e)

@@ -5,6 +5,7 @@ pub mod BitLaws
 pub mod StringLaws
 pub mod Acceptance
 pub mod UnderLaws
+pub mod EntryLaws
 pub mod Inside
 pub mod Refusals
 pub mod OnlyStops

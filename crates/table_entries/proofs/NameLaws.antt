@@ -1,0 +1,86 @@
+-- Laws of names: forbidden bytes from a position on, and the names "." and "..". Assumes nothing.
+use Prim.Native.Nat.{ℕ, zero, suc, _+_, _≤_, _<_}
+use mathlib.Core.Bool.{Bool, true, false, not, _&&_, _||_, and-true, and-false, or-true, or-false}
+use mathlib.Core.List.{List, [], _∷_}
+use mathlib.Core.Path.{_≡_, refl, sym, ap, ap₂, _∙_}
+use native.Mathlib.Omega.{arith}
+use borrow.Author.Tests.{eq-eqb, ne-eqb}
+use lib.Dec.{eqb, leb}
+use lib.ListN.{length, getD, drop}
+use Rattle.model.specs.Bytes.{contains, sameBytes, ascii}
+use Rattle.model.specs.Tree.{Tree}
+use Rattle.model.specs.TableCheck.{nameHolds}
+use Rattle.theorems.proofs.StringLaws.{contains-next, contains-end}
+
+-- a zero byte or a slash
+abbrev pub forbids : List ℕ → Bool
+forbids s = contains 0 s || contains 47 s
+
+sorted : (p x q y : Bool) → ((p || x) || (q || y)) ≡ ((p || q) || (x || y))
+sorted true x q y = refl
+sorted false true true y = refl
+sorted false true false y = refl
+sorted false false true y = refl
+sorted false false false y = refl
+
+forbids-next : (s : List ℕ) (i : ℕ) → i < length s → forbids (drop i s) ≡ (eqb (getD s i 0) 0 || eqb (getD s i 0) 47) || forbids (drop (i + 1) s)
+forbids-next s i h =
+    ap₂ _||_ (contains-next 0 s i h) (contains-next 47 s i h)
+    ∙ sorted (eqb (getD s i 0) 0) (contains 0 (drop (i + 1) s)) (eqb (getD s i 0) 47) (contains 47 (drop (i + 1) s))
+
+pub forbids-hit : (s : List ℕ) (i : ℕ) (found : Bool) → i < length s → forbids s ≡ found || forbids (drop i s)
+    → (eqb (getD s i 0) 0 || eqb (getD s i 0) 47) ≡ true → forbids s ≡ true
+forbids-hit s i found h seen e = seen ∙ ap (λ (b : Bool). found || b) (forbids-next s i h ∙ ap (λ (b : Bool). b || forbids (drop (i + 1) s)) e) ∙ or-true found
+
+pub forbids-miss : (s : List ℕ) (i : ℕ) (found : Bool) → i < length s → forbids s ≡ found || forbids (drop i s)
+    → (eqb (getD s i 0) 0 || eqb (getD s i 0) 47) ≡ false → forbids s ≡ found || forbids (drop (i + 1) s)
+forbids-miss s i found h seen e = seen ∙ ap (λ (b : Bool). found || b) (forbids-next s i h ∙ ap (λ (b : Bool). b || forbids (drop (i + 1) s)) e)
+
+pub forbids-all : (s : List ℕ) (i : ℕ) (found : Bool) → length s ≤ i → forbids s ≡ found || forbids (drop i s) → found ≡ forbids s
+forbids-all s i found h seen = sym (seen ∙ ap (λ (b : Bool). found || b) (ap₂ _||_ (contains-end 0 s i h) (contains-end 47 s i h)) ∙ or-false found)
+
+-- "." or ".."
+abbrev pub dots : List ℕ → Bool
+dots s = sameBytes s (ascii ".") || sameBytes s (ascii "..")
+
+pub dots-other : (s : List ℕ) → 1 ≤ length s → (getD s 0 0 ≡ 46 → ⊥) → dots s ≡ false
+unfolding sameBytes ascii
+dots-other [] h e = refl
+dots-other (x ∷ s) h e = rw (ne-eqb x 46 e)
+
+pub dots-one : (s : List ℕ) → length s ≡ 1 → getD s 0 0 ≡ 46 → dots s ≡ true
+unfolding sameBytes ascii
+dots-one [] h e = absurd (omega arith)
+dots-one (x ∷ []) h e = rw (eq-eqb x 46 e)
+dots-one (x ∷ (y ∷ s)) h e = absurd (omega arith)
+
+pub dots-long : (s : List ℕ) → (length s ≡ 1 → ⊥) → (length s ≡ 2 → ⊥) → dots s ≡ false
+unfolding sameBytes ascii
+dots-long [] h k = refl
+dots-long (x ∷ []) h k = absurd (h refl)
+dots-long (x ∷ (y ∷ [])) h k = absurd (k refl)
+dots-long (x ∷ (y ∷ (z ∷ s))) h k = simp and-false
+
+pub dots-two : (s : List ℕ) → length s ≡ 2 → getD s 0 0 ≡ 46 → dots s ≡ eqb (getD s 1 0) 46
+unfolding sameBytes ascii
+dots-two [] h e = absurd (omega arith)
+dots-two (x ∷ []) h e = absurd (omega arith)
+dots-two (x ∷ (y ∷ [])) h e = rw (eq-eqb x 46 e) (and-true (eqb y 46))
+dots-two (x ∷ (y ∷ (z ∷ s))) h e = absurd (omega arith)
+
+-- the tests of a name, by these two
+neither : (a b c d : Bool) → (not a && not b && not c && not d) ≡ (not (a || b) && not (c || d))
+neither true b c d = refl
+neither false true c d = refl
+neither false false true d = refl
+neither false false false d = refl
+
+tests : (x a b c d : Bool) → (x && not a && not b && not c && not d) ≡ (x && (not (a || b) && not (c || d)))
+tests true a b c d = neither a b c d
+tests false a b c d = refl
+
+-- the sentence on names: where the name lies and how long it is, then its bytes
+pub name-test : (t : Tree) (e : ℕ)
+    → nameHolds t e ≡ ((leb (t .nameOffset e + t .nameLength e) (t .textLength) && leb 1 (t .nameLength e) && leb (t .nameLength e) 255) && (not (forbids (t .name e)) && not (dots (t .name e))))
+unfolding nameHolds
+name-test t e = tests (leb (t .nameOffset e + t .nameLength e) (t .textLength) && leb 1 (t .nameLength e) && leb (t .nameLength e) 255) (contains 0 (t .name e)) (contains 47 (t .name e)) (sameBytes (t .name e) (ascii ".")) (sameBytes (t .name e) (ascii ".."))

@@ -1,0 +1,76 @@
+// An entry's name by itself: where it lies, how long it is, and which bytes it may not be.
+use image::records::Counts;
+use image::records::name_length;
+use image::records::name_offset;
+use image::texts::name;
+ghost use mathlib.Core.Bool.{_||_};
+ghost use mathlib.Core.Path.{_≡_};
+ghost use Prim.Native.Nat.{ℕ, _≤_, _<_};
+ghost use lib.Dec.{eqb};
+ghost use lib.ListN.{length};
+ghost use Rattle.model.specs.Bytes.{contains, sameBytes, ascii};
+ghost use Rattle.model.specs.Tree.{treeOf};
+ghost use Rattle.model.specs.TableCheck.{nameHolds};
+ghost use Rattle.image.specs.Counts.{Counted};
+
+fn forbidden(b: u8) -> bool
+    ensures { λ r. ⌜ r ≡ eqb b 0 || eqb b 47 ⌝ }
+{
+    if b == 0 {
+        return true;
+    }
+    b == 47
+}
+
+// Whether a zero byte or a slash stands in a name. No early exit: the loop is then compiled to vector code.
+fn holds_forbidden(s: &[u8]) -> bool
+    ensures { λ r. ⌜ r ≡ contains 0 (now (s .entry)) || contains 47 (now (s .entry)) ⌝ }
+{
+    let mut found = false;
+    let mut i = 0;
+    while i < s.len() {
+        if forbidden(s[i]) {
+            found = true;
+        }
+        i += 1;
+    }
+    found
+}
+
+// "." or "..", of a name that is not empty.
+fn is_dots(s: &[u8]) -> bool
+    requires { ⌜ 1 ≤ length (now s) ⌝ }
+    ensures { λ r. ⌜ r ≡ sameBytes (now (s .entry)) (ascii ".") || sameBytes (now (s .entry)) (ascii "..") ⌝ }
+{
+    if s[0] != 46 {
+        return false;
+    }
+    if s.len() == 1 {
+        return true;
+    }
+    if s.len() != 2 {
+        return false;
+    }
+    s[1] == 46
+}
+
+pub fn name_holds(image: &[u8], c: Counts, text: usize, e: usize) -> bool
+    requires { ⌜ Counted (now image) c × (e < treeOf (now image) .entries) × (text ≡ treeOf (now image) .textLength) ⌝ }
+    ensures { λ r. ⌜ r ≡ nameHolds (treeOf (now (image .entry))) e ⌝ }
+{
+    let length = name_length(image, c, e);
+    if text < name_offset(image, c, e) + length {
+        return false;
+    }
+    if length == 0 {
+        return false;
+    }
+    if 255 < length {
+        return false;
+    }
+    let s = name(image, c, e);
+    if holds_forbidden(s) {
+        return false;
+    }
+    !is_dots(s)
+}
