@@ -1,6 +1,6 @@
 -- Laws of entries and the directories that hold them: over nodes that keep rule 4 each entry is in one directory. Assumes nothing.
 use Prim.Native.Nat.{ℕ, zero, suc, _+_, _-_, _≤_, _<_}
-use mathlib.Core.Bool.{Bool, true, false, cond, _&&_, and-false, true≢false}
+use mathlib.Core.Bool.{Bool, true, false, cond, _&&_, _||_, and-false, true≢false}
 use mathlib.Core.Logic.{_⊎_, inl, inr, ⊎-elim}
 use mathlib.Core.Path.{_≡_, refl, sym, ap, _∙_, subst}
 use native.Mathlib.Nat.{eq-or-lt-of-le}
@@ -8,8 +8,8 @@ use native.Mathlib.Omega.{arith}
 use borrow.Author.Tests.{ltb-true, leb-true, lt-ltb, le-leb, lt-leb, le-ltb, eqb-true, eqb-false, eq-eqb, ne-eqb}
 use lib.Dec.{eqb, ltb, leb}
 use Rattle.model.specs.Bytes.{before, find, isSome}
-use Rattle.model.specs.Tree.{Tree, isDirectory, holds}
-use Rattle.model.specs.TableCheck.{countsBefore, directoryCount, follows, ascends, standsInParent}
+use Rattle.model.specs.Tree.{Tree, isDirectory, isLink, holds}
+use Rattle.model.specs.TableCheck.{countsBefore, directoryCount, nodeHolds, follows, ascends, standsInParent}
 use Rattle.theorems.specs.Acceptance.{NodesHold}
 use Rattle.theorems.proofs.Acceptance.{directory-below, directory-kind, first-sum, counts-grow, counts-next, entries-inside}
 use Rattle.theorems.proofs.ByteLaws.{find-exists, find-absent}
@@ -115,3 +115,13 @@ is-directory t n h k = rw (lt-ltb n (t .nodes) h, eq-eqb (t .kind n) 1 k)
 pub not-directory : (t : Tree) (n : ℕ) → (t .kind n ≡ 1 → ⊥) → isDirectory t n ≡ false
 unfolding isDirectory
 not-directory t n k = rw (ne-eqb (t .kind n) 1 k) (and-false (ltb n (t .nodes)))
+
+-- over nodes that keep rule 4, what is neither a directory nor a file is a link
+pub link-kind : (t : Tree) → NodesHold t → (n : ℕ) → n < t .nodes → (t .kind n ≡ 1 → ⊥) → (t .kind n ≡ 2 → ⊥) → isLink t n ≡ true
+unfolding isLink nodeHolds
+link-kind t nodes n h d f = by (eqb (t .kind n) 3) (eqb (t .kind n) 4) refl refl
+  where
+    by : (b c : Bool) → eqb (t .kind n) 3 ≡ b → eqb (t .kind n) 4 ≡ c → (b || c) ≡ true
+    by true c e g = refl
+    by false true e g = refl
+    by false false e g = absurd (true≢false (sym (nodes .node-holds n h) ∙ rw (ne-eqb (t .kind n) 1 d, ne-eqb (t .kind n) 2 f, e, g)))

@@ -1,0 +1,4 @@
+mod DotLaws
+mod EnterLaws
+mod RowLaws
+mod LimitLaws

@@ -1,0 +1,77 @@
+-- One component under restrictions: what the definitions' step comes to once the restrictions have read its events.
+use Prim.Native.Nat.{ℕ}
+use mathlib.Core.Bool.{Bool, cond}
+use mathlib.Core.List.{List, [], _∷_}
+use mathlib.Core.Option.{Option, none, some}
+use lib.Dec.{ltb}
+use Rattle.model.specs.Bytes.{has, orElse, sameBytes, ascii}
+use Rattle.model.specs.Tree.{treeOf}
+use Rattle.model.specs.OpenHow.{NO-XDEV, NO-MAGICLINKS, NO-SYMLINKS, BENEATH, IN-ROOT}
+use Rattle.model.specs.Trace.{Event, Restriction, mark, beneath, noXdev, noSymlinks, noMagiclinks, Restrictions, forbids}
+use Rattle.model.specs.Walk.{Request, Move, stayAt, climb, atTop, Landing, outside, target, reading, Step, fail, go, follow}
+use Rattle.model.specs.declared.Place.{Place}
+use Rattle.model.specs.declared.Errno.{Errno}
+use Rattle.model.specs.declared.Errno.the-variants.{Eloop, Exdev}
+use Rattle.component.specs.declared.Ask.{Ask}
+use Rattle.component.specs.declared.Outcome.{Outcome}
+use Rattle.component.specs.declared.Outcome.the-variants.{Stop, Go, Target, Read}
+
+-- the request that the numbers stand for, over an image
+abbrev pub requestFor : List ℕ → Ask → Request
+requestFor s k = record {
+  tree = treeOf s;
+  handle = k .handle;
+  root = k .root;
+  inRoot = has IN-ROOT (k .resolve);
+  followLast = k .follow;
+  pathOnly = k .opath;
+}
+
+-- the restrictions that a mark and the bits of resolve set
+abbrev pub restrictionsBy : Bool → ℕ → Restrictions
+restrictionsBy m bits mark = m
+restrictionsBy m bits beneath = has BENEATH bits
+restrictionsBy m bits noXdev = has NO-XDEV bits
+restrictionsBy m bits noSymlinks = has NO-SYMLINKS bits
+restrictionsBy m bits noMagiclinks = has NO-MAGICLINKS bits
+
+abbrev pub restrictionsFor : Ask → Restrictions
+restrictionsFor k = restrictionsBy (k .mark) (k .resolve)
+
+-- the error of the first event of a list that the restrictions forbid
+unfoldable pub forbidAny : Restrictions → List Event → Option Errno
+forbidAny R [] = none
+forbidAny R (e ∷ es) = orElse (forbids R e) (forbidAny R es)
+
+abbrev pub stopOr : Option Errno → Outcome → Outcome
+stopOr none o = o
+stopOr (some e) o = Stop e
+
+-- a move under restrictions
+abbrev pub moveOutcome : Restrictions → Move → Outcome
+moveOutcome R m = stopOr (forbidAny R (m .events)) (Go (m .place))
+
+abbrev pub landingOutcome : Landing → Outcome
+landingOutcome outside = Stop Exdev
+landingOutcome (target p) = Target p
+landingOutcome (reading n p) = Read n p
+
+-- a step under restrictions
+abbrev pub unlimited : Restrictions → Step → Outcome
+unlimited R (fail e) = Stop e
+unlimited R (go es p) = stopOr (forbidAny R es) (Go p)
+unlimited R (follow es l) = stopOr (forbidAny R es) (landingOutcome l)
+
+-- and with a number of links followed so far: "the 41st gives ELOOP. Then event Link."
+abbrev pub outcome : Restrictions → ℕ → Step → Outcome
+outcome R links (fail e) = Stop e
+outcome R links (go es p) = stopOr (forbidAny R es) (Go p)
+outcome R links (follow es l) = cond (ltb links 40) (stopOr (forbidAny R es) (landingOutcome l)) (Stop Eloop)
+
+-- ".." past the handle's event
+abbrev pub upFrom : Request → Place → Move
+upFrom a p = cond (atTop a p) (stayAt p) (climb (a .tree) p)
+
+-- "." is 1, ".." is 2, any other name 0
+abbrev pub dotsOf : List ℕ → ℕ
+dotsOf s = cond (sameBytes s (ascii ".")) 1 (cond (sameBytes s (ascii "..")) 2 0)

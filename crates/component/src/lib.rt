@@ -1,0 +1,119 @@
+// One component of a walk, with no list of open texts: where it leads from a place, under the restrictions that are set.
+pub mod bits;
+mod links;
+mod moves;
+use image::records::Counts;
+use image::records::entry_node;
+use image::records::node_kind;
+use image::search::Search;
+use model::Errno;
+use model::Place;
+use tree::find_entry;
+use crate::links::follow_link;
+use crate::moves::enter;
+use crate::moves::go_up;
+ghost use mathlib.Core.Bool.{true, not, _||_};
+ghost use mathlib.Core.Path.{_≡_};
+ghost use Prim.Native.Nat.{ℕ, _≤_, _<_};
+ghost use Rattle.model.specs.Tree.{treeOf, isDirectory};
+ghost use Rattle.model.specs.Walk.{stepTo, byName, oneComponent};
+ghost use Rattle.theorems.proofs.Inside.{Inside};
+ghost use Rattle.component.specs.Outcomes.{requestFor, restrictionsFor, outcome, dotsOf};
+ghost use Rattle.component.specs.Walking.{Walking};
+
+// What a walk is asked, as numbers: the handle's place and mark, the root, resolve's bits, whether a last link is followed, and O_PATH.
+pub struct Ask {
+    pub handle: Place,
+    pub root: Place,
+    pub mark: bool,
+    pub resolve: u64,
+    pub follow: bool,
+    pub opath: bool,
+}
+
+// Where one component leads: the walk stops with an error, goes on from a place, goes on from the target of a magic link, or reads
+// the body of the symbolic link whose node is given, from a place.
+pub enum Outcome {
+    Stop(Errno),
+    Go(Place),
+    Target(Place),
+    Read(usize, Place),
+}
+
+// "A link that is not last, or is last and followed"
+fn is_followed(last: bool, follow: bool) -> bool
+    ensures { λ r. ⌜ r ≡ not last || follow ⌝ }
+{
+    if last {
+        return follow;
+    }
+    true
+}
+
+// A named node: a link that is followed, or a place to stand on. Only a directory can be covered.
+fn step_to(image: &[u8], c: Counts, k: Ask, last: bool, links: usize, p: Place, n: usize) -> Outcome
+    requires { ⌜ Walking (now image) c k × Inside (treeOf (now image)) p × (n < treeOf (now image) .nodes) ⌝ }
+    ensures { λ r. ⌜ r ≡ outcome (restrictionsFor k) links (stepTo (requestFor (now (image .entry)) k) last p n) ⌝ }
+{
+    let there = Place { mount: p.mount, node: n };
+    let kind = node_kind(image, n);
+    if kind == 1 {
+        return enter(image, c, k.mark, k.resolve, there);
+    }
+    if kind == 2 {
+        return Outcome::Go(there);
+    }
+    if !is_followed(last, k.follow) {
+        return Outcome::Go(there);
+    }
+    follow_link(image, c, k, links, p, n, kind)
+}
+
+fn by_name(image: &[u8], c: Counts, k: Ask, last: bool, links: usize, p: Place, name: &[u8]) -> Outcome
+    requires { ⌜ Walking (now image) c k × Inside (treeOf (now image)) p × (isDirectory (treeOf (now image)) (p .node) ≡ true) ⌝ }
+    ensures { λ r. ⌜ r ≡ outcome (restrictionsFor k) links (byName (requestFor (now (image .entry)) k) last p (now (name .entry))) ⌝ }
+{
+    if 255 < name.len() {
+        return Outcome::Stop(Errno::Enametoolong);
+    }
+    let found = find_entry(image, c, p.node, name);
+    match found {
+        Search::At(e) => step_to(image, c, k, last, links, p, entry_node(image, c, e)),
+        Search::Nowhere => Outcome::Stop(Errno::Enoent),
+    }
+}
+
+// 1 for ".", 2 for "..", 0 for any other.
+fn dots(name: &[u8]) -> usize
+    ensures { λ r. ⌜ r ≡ dotsOf (now (name .entry)) ⌝ }
+{
+    if 2 < name.len() {
+        return 0;
+    }
+    if name.len() == 0 {
+        return 0;
+    }
+    if name[0] != 46 {
+        return 0;
+    }
+    if name.len() == 1 {
+        return 1;
+    }
+    if name[1] != 46 {
+        return 0;
+    }
+    2
+}
+
+// One component, taken at a directory: "." stays, ".." goes up, any other is a name.
+pub fn take_component(image: &[u8], c: Counts, k: Ask, last: bool, links: usize, p: Place, name: &[u8]) -> Outcome
+    requires { ⌜ Walking (now image) c k × Inside (treeOf (now image)) p × (isDirectory (treeOf (now image)) (p .node) ≡ true) ⌝ }
+    ensures { λ r. ⌜ r ≡ outcome (restrictionsFor k) links (oneComponent (requestFor (now (image .entry)) k) last p (now (name .entry))) ⌝ }
+{
+    let d = dots(name);
+    match d {
+        1 => Outcome::Go(p),
+        2 => go_up(image, c, k, p),
+        _ => by_name(image, c, k, last, links, p, name),
+    }
+}

@@ -1,0 +1,102 @@
+// Following a link: its events under the restrictions, and where it leads.
+use image::records::Counts;
+use image::records::node_count;
+use image::records::node_first;
+use image::texts::body;
+use model::Errno;
+use model::Place;
+use text::is_absolute;
+use crate::Ask;
+use crate::Outcome;
+use crate::bits::beneath;
+use crate::bits::in_root;
+use crate::bits::no_magiclinks;
+use crate::bits::no_symlinks;
+use crate::bits::no_xdev;
+ghost use mathlib.Core.Bool.{true, not, _&&_};
+ghost use lib.Dec.{eqb};
+ghost use mathlib.Core.Path.{_≡_};
+ghost use Prim.Native.Nat.{ℕ, _<_};
+ghost use Rattle.model.specs.Bytes.{has};
+ghost use Rattle.model.specs.OpenHow.{NO-XDEV};
+ghost use Rattle.model.specs.Tree.{treeOf, isLink};
+ghost use Rattle.model.specs.Walk.{magicLink, symbolicLink, followLink};
+ghost use Rattle.component.specs.Outcomes.{requestFor, restrictionsFor, outcome, unlimited};
+ghost use Rattle.theorems.specs.Acceptance.{Sized};
+ghost use Rattle.component.specs.Walking.{Walking};
+
+// Whether NO_XDEV bars the way between two mounts that are not the same.
+fn barred(resolve: u64, m: usize, n: usize) -> bool
+    ensures { λ r. ⌜ r ≡ not (eqb m n) && has NO-XDEV resolve ⌝ }
+{
+    if m == n {
+        return false;
+    }
+    no_xdev(resolve)
+}
+
+// Events Link and Magic, then the target; under IN_ROOT it is refused.
+fn follow_magic(image: &[u8], k: Ask, p: Place, n: usize) -> Outcome
+    requires { ⌜ Sized (now image) × (n < treeOf (now image) .nodes) ⌝ }
+    ensures { λ r. ⌜ r ≡ unlimited (restrictionsFor k) (magicLink (requestFor (now (image .entry)) k) p n) ⌝ }
+{
+    if no_symlinks(k.resolve) {
+        return Outcome::Stop(Errno::Eloop);
+    }
+    if k.mark {
+        return Outcome::Stop(Errno::Enoent);
+    }
+    if no_magiclinks(k.resolve) {
+        return Outcome::Stop(Errno::Eloop);
+    }
+    let mount = node_first(image, n);
+    if barred(k.resolve, mount, p.mount) {
+        return Outcome::Stop(Errno::Exdev);
+    }
+    if beneath(k.resolve) {
+        return Outcome::Stop(Errno::Exdev);
+    }
+    if in_root(k.resolve) {
+        return Outcome::Stop(Errno::Exdev);
+    }
+    let node = node_count(image, n);
+    Outcome::Target(Place { mount, node })
+}
+
+// Events Link and, for a body that starts with a slash, Jump; then the body, from the root or from where the link is named.
+fn follow_symbolic(image: &[u8], c: Counts, k: Ask, p: Place, n: usize) -> Outcome
+    requires { ⌜ Walking (now image) c k × (n < treeOf (now image) .nodes) × (treeOf (now image) .kind n ≡ 3) ⌝ }
+    ensures { λ r. ⌜ r ≡ unlimited (restrictionsFor k) (symbolicLink (requestFor (now (image .entry)) k) p n) ⌝ }
+{
+    if no_symlinks(k.resolve) {
+        return Outcome::Stop(Errno::Eloop);
+    }
+    if !is_absolute(body(image, c, n)) {
+        return Outcome::Read(n, p);
+    }
+    if k.mark {
+        return Outcome::Stop(Errno::Enoent);
+    }
+    if beneath(k.resolve) {
+        return Outcome::Stop(Errno::Exdev);
+    }
+    let root = k.root;
+    if barred(k.resolve, p.mount, root.mount) {
+        return Outcome::Stop(Errno::Exdev);
+    }
+    Outcome::Read(n, root)
+}
+
+// The 41st link of a walk is refused before any of its events.
+pub fn follow_link(image: &[u8], c: Counts, k: Ask, links: usize, p: Place, n: usize, kind: usize) -> Outcome
+    requires { ⌜ Walking (now image) c k × (n < treeOf (now image) .nodes) × (kind ≡ treeOf (now image) .kind n) × (isLink (treeOf (now image)) n ≡ true) ⌝ }
+    ensures { λ r. ⌜ r ≡ outcome (restrictionsFor k) links (followLink (requestFor (now (image .entry)) k) p n) ⌝ }
+{
+    if 40 <= links {
+        return Outcome::Stop(Errno::Eloop);
+    }
+    if kind == 4 {
+        return follow_magic(image, k, p, n);
+    }
+    follow_symbolic(image, c, k, p, n)
+}

@@ -1,0 +1,104 @@
+// The table check: an image of any bytes and any length to accepted, or to the lowest rule broken with the lowest record.
+use image::bytes::u16_at;
+use image::bytes::u32_at;
+use image::records::Counts;
+use image::records::read_counts;
+use image::records::text_length;
+use image::search::Search;
+use image::strings::same;
+use model::Verdict;
+use table_entries::first_bad_entry;
+use table_mounts::first_bad_mount;
+use table_nodes::first_bad_node;
+use table_targets::first_bad_target;
+ghost use mathlib.Core.Bool.{_&&_};
+ghost use mathlib.Core.Path.{_≡_};
+ghost use Prim.Native.Nat.{ℕ, _^_, _≤_, _<_};
+ghost use lib.Dec.{eqb};
+ghost use lib.ListN.{length, take};
+ghost use Rattle.model.specs.Bytes.{field, sameBytes, ascii};
+ghost use Rattle.model.specs.Tree.{treeOf};
+ghost use Rattle.model.specs.TableCheck.{countsFit, wholeLength, recordsCheck, tableCheck};
+ghost use Rattle.image.specs.Counts.{Counted, countsOf};
+
+// Rule 2.
+fn is_signed(image: &[u8]) -> bool
+    requires { ⌜ 20 ≤ length (now image) ⌝ }
+    ensures { λ r. ⌜ r ≡ sameBytes (take 4 (now (image .entry))) (ascii "TOC1") && eqb (field 2 (now (image .entry)) 10) 0 ⌝ }
+{
+    if !same(&image[..4], b"TOC1") {
+        return false;
+    }
+    u16_at(image, 10) == 0
+}
+
+// Rule 3.
+fn sizes_fit(image: &[u8], c: Counts, text: usize) -> bool
+    requires { ⌜ (20 ≤ length (now image)) × (c ≡ countsOf (now image)) × (text ≡ treeOf (now image) .textLength) × (text < 2 ^ 32) ⌝ }
+    ensures { λ r. ⌜ r ≡ countsFit (treeOf (now (image .entry))) && eqb (field 4 (now (image .entry)) 16) (wholeLength (treeOf (now (image .entry)))) && eqb (length (now (image .entry))) (wholeLength (treeOf (now (image .entry)))) ⌝ }
+{
+    if c.nodes == 0 {
+        return false;
+    }
+    if 4096 < c.nodes {
+        return false;
+    }
+    if c.mounts == 0 {
+        return false;
+    }
+    if 256 < c.mounts {
+        return false;
+    }
+    if 4096 < c.entries {
+        return false;
+    }
+    let whole = 20 + 12 * c.nodes + 8 * c.mounts + 8 * c.entries + text;
+    if u32_at(image, 16) != whole {
+        return false;
+    }
+    image.len() == whole
+}
+
+// Rules 4 to 7, each on what the ones before it have seen.
+fn check_records(image: &[u8], c: Counts, text: usize) -> Verdict
+    requires { ⌜ Counted (now image) c × (text ≡ treeOf (now image) .textLength) ⌝ }
+    ensures { λ r. ⌜ r ≡ recordsCheck (treeOf (now (image .entry))) ⌝ }
+{
+    let node = first_bad_node(image, c, text);
+    if let Search::At(n) = node {
+        return Verdict::Broken { rule: 4, record: n };
+    }
+    let entry = first_bad_entry(image, c, text);
+    if let Search::At(e) = entry {
+        return Verdict::Broken { rule: 5, record: e };
+    }
+    let mount = first_bad_mount(image, c);
+    if let Search::At(m) = mount {
+        return Verdict::Broken { rule: 6, record: m };
+    }
+    let target = first_bad_target(image, c);
+    if let Search::At(n) = target {
+        return Verdict::Broken { rule: 7, record: n };
+    }
+    Verdict::Accepted
+}
+
+pub fn check(image: &[u8]) -> Verdict
+    ensures { λ r. ⌜ r ≡ tableCheck (now (image .entry)) ⌝ }
+{
+    if image.len() < 20 {
+        return Verdict::Broken { rule: 1, record: 0 };
+    }
+    if 65536 < image.len() {
+        return Verdict::Broken { rule: 1, record: 0 };
+    }
+    if !is_signed(image) {
+        return Verdict::Broken { rule: 2, record: 0 };
+    }
+    let c = read_counts(image);
+    let text = text_length(image);
+    if !sizes_fit(image, c, text) {
+        return Verdict::Broken { rule: 3, record: 0 };
+    }
+    check_records(image, c, text)
+}
