@@ -2,6 +2,10 @@
 pub mod bits;
 mod links;
 mod moves;
+
+use crate::links::follow_link;
+use crate::moves::enter;
+use crate::moves::go_up;
 use image::records::Counts;
 use image::records::entry_node;
 use image::records::node_kind;
@@ -9,9 +13,6 @@ use image::search::Search;
 use model::Errno;
 use model::Place;
 use tree::find_entry;
-use crate::links::follow_link;
-use crate::moves::enter;
-use crate::moves::go_up;
 ghost use mathlib.Core.Bool.{true, not, _||_};
 ghost use mathlib.Core.Path.{_≡_};
 ghost use Prim.Native.Nat.{ℕ, _≤_, _<_};
@@ -55,7 +56,10 @@ fn step_to(image: &[u8], c: Counts, k: Ask, last: bool, links: usize, p: Place, 
     requires { ⌜ Walking (now image) c k × Inside (treeOf (now image)) p × (n < treeOf (now image) .nodes) ⌝ }
     ensures { λ r. ⌜ r ≡ outcome (restrictionsFor k) links (stepTo (requestFor (now (image .entry)) k) last p n) ⌝ }
 {
-    let there = Place { mount: p.mount, node: n };
+    let there = Place {
+        mount: p.mount,
+        node: n,
+    };
     let kind = node_kind(image, n);
     if kind == 1 {
         return enter(image, c, k.mark, k.resolve, there);
@@ -69,7 +73,15 @@ fn step_to(image: &[u8], c: Counts, k: Ask, last: bool, links: usize, p: Place, 
     follow_link(image, c, k, links, p, n, kind)
 }
 
-fn by_name(image: &[u8], c: Counts, k: Ask, last: bool, links: usize, p: Place, name: &[u8]) -> Outcome
+fn by_name(
+    image: &[u8],
+    c: Counts,
+    k: Ask,
+    last: bool,
+    links: usize,
+    p: Place,
+    name: &[u8],
+) -> Outcome
     requires { ⌜ Walking (now image) c k × Inside (treeOf (now image)) p × (isDirectory (treeOf (now image)) (p .node) ≡ true) ⌝ }
     ensures { λ r. ⌜ r ≡ outcome (restrictionsFor k) links (byName (requestFor (now (image .entry)) k) last p (now (name .entry))) ⌝ }
 {
@@ -106,7 +118,15 @@ fn dots(name: &[u8]) -> usize
 }
 
 // One component, taken at a directory: "." stays, ".." goes up, any other is a name.
-pub fn take_component(image: &[u8], c: Counts, k: Ask, last: bool, links: usize, p: Place, name: &[u8]) -> Outcome
+pub fn take_component(
+    image: &[u8],
+    c: Counts,
+    k: Ask,
+    last: bool,
+    links: usize,
+    p: Place,
+    name: &[u8],
+) -> Outcome
     requires { ⌜ Walking (now image) c k × Inside (treeOf (now image)) p × (isDirectory (treeOf (now image)) (p .node) ≡ true) ⌝ }
     ensures { λ r. ⌜ r ≡ outcome (restrictionsFor k) links (oneComponent (requestFor (now (image .entry)) k) last p (now (name .entry))) ⌝ }
 {

@@ -1,11 +1,4 @@
 // Following a link: its events under the restrictions, and where it leads.
-use image::records::Counts;
-use image::records::node_count;
-use image::records::node_first;
-use image::texts::body;
-use model::Errno;
-use model::Place;
-use text::is_absolute;
 use crate::Ask;
 use crate::Outcome;
 use crate::bits::beneath;
@@ -13,6 +6,13 @@ use crate::bits::in_root;
 use crate::bits::no_magiclinks;
 use crate::bits::no_symlinks;
 use crate::bits::no_xdev;
+use image::records::Counts;
+use image::records::node_count;
+use image::records::node_first;
+use image::texts::body;
+use model::Errno;
+use model::Place;
+use text::is_absolute;
 ghost use mathlib.Core.Bool.{true, not, _&&_};
 ghost use lib.Dec.{eqb};
 ghost use mathlib.Core.Path.{_≡_};
@@ -88,7 +88,15 @@ fn follow_symbolic(image: &[u8], c: Counts, k: Ask, p: Place, n: usize) -> Outco
 }
 
 // The 41st link of a walk is refused before any of its events.
-pub fn follow_link(image: &[u8], c: Counts, k: Ask, links: usize, p: Place, n: usize, kind: usize) -> Outcome
+pub fn follow_link(
+    image: &[u8],
+    c: Counts,
+    k: Ask,
+    links: usize,
+    p: Place,
+    n: usize,
+    kind: usize,
+) -> Outcome
     requires { ⌜ Walking (now image) c k × (n < treeOf (now image) .nodes) × (kind ≡ treeOf (now image) .kind n) × (isLink (treeOf (now image)) n ≡ true) ⌝ }
     ensures { λ r. ⌜ r ≡ outcome (restrictionsFor k) links (followLink (requestFor (now (image .entry)) k) p n) ⌝ }
 {

@@ -1,4 +1,8 @@
 // Moves with no link in them: entering a mount, and "..".
+use crate::Ask;
+use crate::Outcome;
+use crate::bits::beneath;
+use crate::bits::no_xdev;
 use image::records::Counts;
 use image::records::mount_parent;
 use image::records::mount_point;
@@ -8,10 +12,6 @@ use image::search::Search;
 use model::Errno;
 use model::Place;
 use tree::find_mount;
-use crate::Ask;
-use crate::Outcome;
-use crate::bits::beneath;
-use crate::bits::no_xdev;
 ghost use mathlib.Core.Bool.{true};
 ghost use mathlib.Core.Path.{_≡_};
 ghost use Prim.Native.Nat.{ℕ, _<_};
@@ -42,7 +42,10 @@ pub fn enter(image: &[u8], c: Counts, mark: bool, resolve: u64, p: Place) -> Out
                 return Outcome::Stop(Errno::Exdev);
             }
             let root = mount_root(image, c, m);
-            Outcome::Go(Place { mount: m, node: root })
+            Outcome::Go(Place {
+                mount: m,
+                node: root,
+            })
         }
         Search::Nowhere => Outcome::Go(p),
     }
@@ -53,7 +56,16 @@ fn to_parent(image: &[u8], c: Counts, mark: bool, resolve: u64, p: Place) -> Out
     ensures { λ r. ⌜ r ≡ moveOutcome (restrictionsBy mark resolve) (toParent (treeOf (now (image .entry))) p) ⌝ }
 {
     let parent = node_parent(image, p.node);
-    enter(image, c, mark, resolve, Place { mount: p.mount, node: parent })
+    enter(
+        image,
+        c,
+        mark,
+        resolve,
+        Place {
+            mount: p.mount,
+            node: parent,
+        },
+    )
 }
 
 // At a mount's root the climb to its point comes first.
@@ -69,7 +81,16 @@ fn climb(image: &[u8], c: Counts, mark: bool, resolve: u64, p: Place) -> Outcome
     }
     let parent = mount_parent(image, c, p.mount);
     let point = mount_point(image, c, p.mount);
-    to_parent(image, c, mark, resolve, Place { mount: parent, node: point })
+    to_parent(
+        image,
+        c,
+        mark,
+        resolve,
+        Place {
+            mount: parent,
+            node: point,
+        },
+    )
 }
 
 // At the root, or mount 0's root, ".." stays.
@@ -82,7 +103,13 @@ fn up_from(image: &[u8], c: Counts, k: Ask, p: Place) -> Outcome
         return Outcome::Go(p);
     }
     let top = mount_root(image, c, 0);
-    if same_place(p, Place { mount: 0, node: top }) {
+    if same_place(
+        p,
+        Place {
+            mount: 0,
+            node: top,
+        },
+    ) {
         return Outcome::Go(p);
     }
     climb(image, c, k.mark, k.resolve, p)

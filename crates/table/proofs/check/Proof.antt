@@ -1,4 +1,19 @@
 use borrow.Author.Needs.{needs}
+use Prim.Native.Nat.{ℕ, _+_, _*_, _≤_, _<_}
+use mathlib.Core.Bool.{Bool, true, false, not, _&&_, and-false}
+use mathlib.Core.Option.{some, none}
+use mathlib.Core.Path.{_≡_, refl, ap, ap₂, _∙_, sym, subst}
+use native.Mathlib.Omega.{arith}
+use borrow.Author.Tests.{eq-eqb, ne-eqb, lt-ltb, le-ltb, le-leb, lt-leb, not-true, not-false}
+use lib.Dec.{eqb, leb}
+use lib.ListN.{length}
+use denote.Ref.{now}
+use Rattle.model.specs.Bytes.{field}
+use Rattle.model.specs.Tree.{treeOf}
+use Rattle.model.specs.TableCheck.{unless, rule1, rule2, countsFit, wholeLength, rule3, rule4, rule5, rule6, rule7, breaks, recordsCheck, tableCheck}
+use Rattle.model.specs.declared.Verdict.the-variants.{Broken}
+use Rattle.theorems.proofs.Acceptance.{rule4-nodes, rule6-mounts, rules-sized}
+use Rattle.image.proofs.SearchLaws.{search-at, search-nowhere}
 use Rattle.table.proofs.check.Statement.{statement}
 use Rattle.table.proofs.check.Tie as tie
 use Rattle.table.proofs.check.Reads as reads
@@ -11,11 +26,13 @@ use Rattle.table.proofs.sizes_fit.Reads as sizes-fit-reads
 
 -- src/lib.rt:90:9
 returns : tie.Need-returns
-returns c = search needs
+unfolding tableCheck rule1
+returns c = rw (lt-leb 20 (length (now (c .before .before .args .image))) (omega arith))
 
 -- src/lib.rt:93:9
 returns-2 : tie.Need-returns-2
-returns-2 c = search needs
+unfolding tableCheck rule1
+returns-2 c = simp (lt-leb (length (now (c .before .before .before .args .image))) 65536 (omega arith), and-false)
 
 -- src/lib.rt:95:9
 is-signed-requires : tie.Need-is-signed-requires
@@ -23,7 +40,8 @@ is-signed-requires c κs = search needs
 
 -- src/lib.rt:96:9
 returns-3 : tie.Need-returns-3
-returns-3 c = search needs
+unfolding tableCheck rule1 rule2
+returns-3 c = rw (le-leb 20 (length (now (c .before .before .before .before .before .args .image))) (omega arith), le-leb (length (now (c .before .before .before .before .before .args .image))) 65536 (omega arith), sym (c .before .is-signed .ensures) ∙ not-true _ (c .if3 .taken))
 
 -- src/lib.rt:98:9
 read-counts-requires : tie.Need-read-counts-requires
@@ -35,19 +53,28 @@ text-length-requires c κs = search needs
 
 -- src/lib.rt:100:9
 sizes-fit-requires : tie.Need-sizes-fit-requires
-sizes-fit-requires c κs = search needs
+sizes-fit-requires c κs = (omega arith, c .before .read-counts .ensures, c .text-length .ensures .0, c .text-length .ensures .1)
 
 -- src/lib.rt:101:9
 returns-4 : tie.Need-returns-4
-returns-4 c = search needs
+unfolding tableCheck rule1 rule2 rule3
+returns-4 c = rw (le-leb 20 (length (now (c .before .before .before .before .before .before .before .before .before .args .image))) (omega arith), le-leb (length (now (c .before .before .before .before .before .before .before .before .before .args .image))) 65536 (omega arith), sym (c .before .before .before .before .before .is-signed .ensures) ∙ not-false _ (c .before .before .before .before .if3 .left), sym (c .before .sizes-fit .ensures) ∙ not-true _ (c .if4 .taken))
 
 -- src/lib.rt:103:5
 check-records-requires : tie.Need-check-records-requires
-check-records-requires c κs = search needs
+unfolding rule1 rule3
+check-records-requires c κs =
+    let s = now (c .before .before .before .before .before .before .before .before .before .args .image) in
+    let e1 : rule1 s ≡ none = rw (le-leb 20 (length s) (omega arith), le-leb (length s) 65536 (omega arith)) in
+    let e3 : rule3 s ≡ none = rw (sym (c .before .sizes-fit .ensures) ∙ not-false _ (c .if4 .left)) in
+    let r = c .before .before .before .read-counts .ensures in
+    (record { sized = rules-sized s e1 e3; nodes-are = ap (λ x. x .nodes) r; mounts-are = ap (λ x. x .mounts) r; entries-are = ap (λ x. x .entries) r }, c .before .before .text-length .ensures .0)
 
 -- src/lib.rt:86:1
 returns-5 : tie.Need-returns-5
-returns-5 c = search needs
+unfolding tableCheck rule1 rule2 rule3
+returns-5 c =
+    c .check-records .ensures ∙ rw (le-leb 20 (length (now (c .before .before .before .before .before .before .before .before .before .before .args .image))) (omega arith), le-leb (length (now (c .before .before .before .before .before .before .before .before .before .before .args .image))) 65536 (omega arith), sym (c .before .before .before .before .before .before .is-signed .ensures) ∙ not-false _ (c .before .before .before .before .before .if3 .left), sym (c .before .before .sizes-fit .ensures) ∙ not-false _ (c .before .if4 .left))
 
 pub check-spec : {M : Type 1} → statement M
 check-spec =

@@ -1,4 +1,19 @@
 use borrow.Author.Needs.{needs}
+use Prim.Native.Nat.{ℕ, _+_, _*_, _≤_, _<_}
+use mathlib.Core.Bool.{Bool, true, false, not, _&&_, and-false}
+use mathlib.Core.Option.{some, none}
+use mathlib.Core.Path.{_≡_, refl, ap, ap₂, _∙_, sym, subst}
+use native.Mathlib.Omega.{arith}
+use borrow.Author.Tests.{eq-eqb, ne-eqb, lt-ltb, le-ltb, le-leb, lt-leb, not-true, not-false}
+use lib.Dec.{eqb, leb}
+use lib.ListN.{length}
+use denote.Ref.{now}
+use Rattle.model.specs.Bytes.{field}
+use Rattle.model.specs.Tree.{treeOf}
+use Rattle.model.specs.TableCheck.{unless, rule1, rule2, countsFit, wholeLength, rule3, rule4, rule5, rule6, rule7, breaks, recordsCheck, tableCheck}
+use Rattle.model.specs.declared.Verdict.the-variants.{Broken}
+use Rattle.theorems.proofs.Acceptance.{rule4-nodes, rule6-mounts, rules-sized}
+use Rattle.image.proofs.SearchLaws.{search-at, search-nowhere}
 use Rattle.table.proofs.check_records.Statement.{statement}
 use Rattle.table.proofs.check_records.Tie as tie
 use Rattle.table.proofs.check_records.Reads as reads
@@ -18,14 +33,21 @@ enum-known-node c = search needs
 
 -- src/lib.rt:69:9
 returns : tie.Need-returns
-returns c = search needs
+unfolding recordsCheck
+returns c =
+    let t = treeOf (now (c .before .before .before .before .before .args .image)) in
+    let r = search-at (rule4 t) (c .before .node .given .0 .0) (sym (c .before .before .before .first-bad-node .ensures) ∙ c .before .node .given .1) in
+    rw r
 
 enum-told : tie.Need-enum-told
 enum-told c = search needs
 
 -- src/lib.rt:71:9
 first-bad-entry-requires : tie.Need-first-bad-entry-requires
-first-bad-entry-requires c κs = search needs
+first-bad-entry-requires c κs =
+    let t = treeOf (now (c .before .before .before .before .args .image)) in
+    let four = search-nowhere (rule4 t) (sym (c .before .before .first-bad-node .ensures) ∙ c .enum-told .given .1) in
+    (c .before .before .before .before .pre .0, rule4-nodes t four, c .before .before .before .before .pre .1)
 
 -- src/lib.rt:72:23
 enum-known-entry : tie.Need-enum-known-entry
@@ -33,14 +55,22 @@ enum-known-entry c = search needs
 
 -- src/lib.rt:73:9
 returns-2 : tie.Need-returns-2
-returns-2 c = search needs
+unfolding recordsCheck
+returns-2 c =
+    let t = treeOf (now (c .before .before .before .before .before .before .before .before .args .image)) in
+    let four = search-nowhere (rule4 t) (sym (c .before .before .before .before .before .before .first-bad-node .ensures) ∙ c .before .before .before .before .enum-told .given .1) in
+    let r = search-at (rule5 t) (c .before .entry .given .0 .0) (sym (c .before .before .before .first-bad-entry .ensures) ∙ c .before .entry .given .1) in
+    rw (four, r)
 
 enum-told-2 : tie.Need-enum-told-2
 enum-told-2 c = search needs
 
 -- src/lib.rt:75:9
 first-bad-mount-requires : tie.Need-first-bad-mount-requires
-first-bad-mount-requires c κs = search needs
+first-bad-mount-requires c κs =
+    let t = treeOf (now (c .before .before .before .before .before .before .before .args .image)) in
+    let four = search-nowhere (rule4 t) (sym (c .before .before .before .before .before .first-bad-node .ensures) ∙ c .before .before .before .enum-told .given .1) in
+    (c .before .before .before .before .before .before .before .pre .0, rule4-nodes t four)
 
 -- src/lib.rt:76:23
 enum-known-mount : tie.Need-enum-known-mount
@@ -48,14 +78,24 @@ enum-known-mount c = search needs
 
 -- src/lib.rt:77:9
 returns-3 : tie.Need-returns-3
-returns-3 c = search needs
+unfolding recordsCheck
+returns-3 c =
+    let t = treeOf (now (c .before .before .before .before .before .before .before .before .before .before .before .args .image)) in
+    let four = search-nowhere (rule4 t) (sym (c .before .before .before .before .before .before .before .before .before .first-bad-node .ensures) ∙ c .before .before .before .before .before .before .before .enum-told .given .1) in
+    let five = search-nowhere (rule5 t) (sym (c .before .before .before .before .before .before .first-bad-entry .ensures) ∙ c .before .before .before .before .enum-told2 .given .1) in
+    let r = search-at (rule6 t) (c .before .mount .given .0 .0) (sym (c .before .before .before .first-bad-mount .ensures) ∙ c .before .mount .given .1) in
+    rw (four, five, r)
 
 enum-told-3 : tie.Need-enum-told-3
 enum-told-3 c = search needs
 
 -- src/lib.rt:79:9
 first-bad-target-requires : tie.Need-first-bad-target-requires
-first-bad-target-requires c κs = search needs
+first-bad-target-requires c κs =
+    let t = treeOf (now (c .before .before .before .before .before .before .before .before .before .before .args .image)) in
+    let four = search-nowhere (rule4 t) (sym (c .before .before .before .before .before .before .before .before .first-bad-node .ensures) ∙ c .before .before .before .before .before .before .enum-told .given .1) in
+    let six = search-nowhere (rule6 t) (sym (c .before .before .first-bad-mount .ensures) ∙ c .enum-told3 .given .1) in
+    (c .before .before .before .before .before .before .before .before .before .before .pre .0, rule4-nodes t four, rule6-mounts t (c .before .before .before .before .before .before .before .before .before .before .pre .0 .sized .some-mount) six)
 
 -- src/lib.rt:80:23
 enum-known-target : tie.Need-enum-known-target
@@ -63,14 +103,28 @@ enum-known-target c = search needs
 
 -- src/lib.rt:81:9
 returns-4 : tie.Need-returns-4
-returns-4 c = search needs
+unfolding recordsCheck
+returns-4 c =
+    let t = treeOf (now (c .before .before .before .before .before .before .before .before .before .before .before .before .before .before .args .image)) in
+    let four = search-nowhere (rule4 t) (sym (c .before .before .before .before .before .before .before .before .before .before .before .before .first-bad-node .ensures) ∙ c .before .before .before .before .before .before .before .before .before .before .enum-told .given .1) in
+    let five = search-nowhere (rule5 t) (sym (c .before .before .before .before .before .before .before .before .before .first-bad-entry .ensures) ∙ c .before .before .before .before .before .before .before .enum-told2 .given .1) in
+    let six = search-nowhere (rule6 t) (sym (c .before .before .before .before .before .before .first-bad-mount .ensures) ∙ c .before .before .before .before .enum-told3 .given .1) in
+    let r = search-at (rule7 t) (c .before .target .given .0 .0) (sym (c .before .before .before .first-bad-target .ensures) ∙ c .before .target .given .1) in
+    rw (four, five, six, r)
 
 enum-told-4 : tie.Need-enum-told-4
 enum-told-4 c = search needs
 
 -- src/lib.rt:63:1
 returns-5 : tie.Need-returns-5
-returns-5 c = search needs
+unfolding recordsCheck
+returns-5 c =
+    let t = treeOf (now (c .before .before .before .before .before .before .before .before .before .before .before .before .before .args .image)) in
+    let four = search-nowhere (rule4 t) (sym (c .before .before .before .before .before .before .before .before .before .before .before .first-bad-node .ensures) ∙ c .before .before .before .before .before .before .before .before .before .enum-told .given .1) in
+    let five = search-nowhere (rule5 t) (sym (c .before .before .before .before .before .before .before .before .first-bad-entry .ensures) ∙ c .before .before .before .before .before .before .enum-told2 .given .1) in
+    let six = search-nowhere (rule6 t) (sym (c .before .before .before .before .before .first-bad-mount .ensures) ∙ c .before .before .before .enum-told3 .given .1) in
+    let seven = search-nowhere (rule7 t) (sym (c .before .before .first-bad-target .ensures) ∙ c .enum-told4 .given .1) in
+    rw (four, five, six, seven)
 
 pub check-records-spec : {M : Type 1} → statement M
 check-records-spec =

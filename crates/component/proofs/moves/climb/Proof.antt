@@ -69,9 +69,11 @@ mount-point-requires c κs = search needs
 to-parent-requires-2 : tie.Need-to-parent-requires-2
 to-parent-requires-2 c κs =
     let t = treeOf (now (c .before .before .before .before .before .before .before .before .args .image)) in
-    let mounts = accepted-sound (now (c .before .before .before .before .before .before .before .before .args .image)) (c .before .before .before .before .before .before .before .before .pre .0 .accepted) .mounts-hold in
-    (c .before .before .before .before .before .before .before .before .pre .0, omega (arith, c .before .mount-parent .ensures .0, mount-parent-below t mounts (c .before .before .before .before .before .before .before .before .args .p .mount) (c .before .before .before .before .before .before .before .before .pre .1)),
-    subst (λ (n : ℕ). isDirectory t n ≡ true) (sym (c .mount-point .ensures .0)) (point-directory t mounts (c .before .before .before .before .before .before .before .before .args .p .mount) (c .before .before .before .before .before .before .before .before .pre .1)))
+    let mounts = accepted-sound (now (c .before .before .before .before .before .before .before .before .args .image)) (c .before .before .before .before .before .before .before .before .pre .0 .accepted) .mounts-hold in (
+      c .before .before .before .before .before .before .before .before .pre .0,
+      omega (arith, c .before .mount-parent .ensures .0, mount-parent-below t mounts (c .before .before .before .before .before .before .before .before .args .p .mount) (c .before .before .before .before .before .before .before .before .pre .1)),
+      subst (λ (n : ℕ). isDirectory t n ≡ true) (sym (c .mount-point .ensures .0)) (point-directory t mounts (c .before .before .before .before .before .before .before .before .args .p .mount) (c .before .before .before .before .before .before .before .before .pre .1)),
+    )
 
 -- src/moves.rt:60:1
 returns-3 : tie.Need-returns-3
