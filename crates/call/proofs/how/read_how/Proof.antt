@@ -1,0 +1,159 @@
+-- `call::how::read_how` meets its contract. The checks are the definition's, in its order, and the first that refuses decides.
+-- Assumes nothing.
+use borrow.Author.Needs.{needs}
+use mathlib.Core.Path.{refl, sym, ap, _∙_}
+use native.Mathlib.Omega.{arith}
+use denote.Ref.{now}
+use Rattle.model.specs.Bytes.{field}
+use Rattle.call.specs.Checks.{lengthRefused, readHow}
+use Rattle.call.specs.declared.how.HowRead.the-variants.{Fields}
+use Rattle.call.proofs.CheckLaws.{passed, stopped}
+use Rattle.call.proofs.HowLaws.{flagsRefused, resolveRefused, scopesRefused, modeRefused, read-steps, read-fields, length-long}
+use Rattle.call.proofs.how.read_how.Statement.{statement}
+use Rattle.call.proofs.how.read_how.Tie as tie
+
+check-length-requires : tie.Need-check-length-requires
+check-length-requires c κs = search needs
+
+enum-known-r : tie.Need-enum-known-r
+enum-known-r c = search needs
+
+returns : tie.Need-returns
+unfolding readHow
+returns c =
+    let how = now (c .before .before .before .before .before .args .how) in
+    rw (read-steps how (field 8 how 0) (field 8 how 16) refl refl, stopped (lengthRefused how) (c .before .r .given .0 .0) (sym (c .before .before .before .check-length .ensures) ∙ c .before .r .given .1))
+
+enum-told : tie.Need-enum-told
+enum-told c = search needs
+
+u64-at-requires : tie.Need-u64-at-requires
+u64-at-requires c κs = omega (arith, length-long (now (c .before .before .before .before .args .how)) (passed _ (sym (c .before .before .check-length .ensures) ∙ c .enum-told .given .1)))
+
+u64-at-requires-2 : tie.Need-u64-at-requires-2
+u64-at-requires-2 c κs = omega (arith, length-long (now (c .before .before .before .before .before .args .how)) (passed _ (sym (c .before .before .before .check-length .ensures) ∙ c .before .enum-told .given .1)))
+
+check-bits-requires : tie.Need-check-bits-requires
+check-bits-requires c κs = search needs
+
+enum-known-r-2 : tie.Need-enum-known-r-2
+enum-known-r-2 c = search needs
+
+returns-2 : tie.Need-returns-2
+unfolding readHow
+returns-2 c =
+    let how = now (c .before .before .before .before .before .before .before .before .before .before .args .how) in
+    let flags = c .before .before .before .before .before .u64-at in
+    let resolve = c .before .before .before .before .u64-at2 in
+    let steps = read-steps how (flags .result) (resolve .result) (flags .ensures .0) (resolve .ensures .0) in
+    let length-passes = passed (lengthRefused how) (sym (c .before .before .before .before .before .before .before .before .check-length .ensures) ∙ c .before .before .before .before .before .before .enum-told .given .1) in
+    rw (steps, length-passes, stopped (flagsRefused (flags .result)) (c .before .r2 .given .0 .0) (sym (c .before .before .before .check-bits .ensures) ∙ c .before .r2 .given .1))
+
+enum-told-2 : tie.Need-enum-told-2
+enum-told-2 c = search needs
+
+check-bits-requires-2 : tie.Need-check-bits-requires-2
+check-bits-requires-2 c κs = search needs
+
+enum-known-r-3 : tie.Need-enum-known-r-3
+enum-known-r-3 c = search needs
+
+returns-3 : tie.Need-returns-3
+unfolding readHow
+returns-3 c =
+    let how = now (c .before .before .before .before .before .before .before .before .before .before .before .before .before .args .how) in
+    let flags = c .before .before .before .before .before .before .before .before .u64-at in
+    let resolve = c .before .before .before .before .before .before .before .u64-at2 in
+    let steps = read-steps how (flags .result) (resolve .result) (flags .ensures .0) (resolve .ensures .0) in
+    let length-passes = passed (lengthRefused how) (sym (c .before .before .before .before .before .before .before .before .before .before .before .check-length .ensures) ∙ c .before .before .before .before .before .before .before .before .before .enum-told .given .1) in
+    let flags-pass = passed (flagsRefused (flags .result)) (sym (c .before .before .before .before .before .before .check-bits .ensures) ∙ c .before .before .before .before .enum-told2 .given .1) in
+    rw (steps, length-passes, flags-pass, stopped (resolveRefused (resolve .result)) (c .before .r3 .given .0 .0) (sym (c .before .before .before .check-bits2 .ensures) ∙ c .before .r3 .given .1))
+
+enum-told-3 : tie.Need-enum-told-3
+enum-told-3 c = search needs
+
+check-scopes-requires : tie.Need-check-scopes-requires
+check-scopes-requires c κs = search needs
+
+enum-known-r-4 : tie.Need-enum-known-r-4
+enum-known-r-4 c = search needs
+
+returns-4 : tie.Need-returns-4
+unfolding readHow
+returns-4 c =
+    let how = now (c .before .before .before .before .before .before .before .before .before .before .before .before .before .before .before .before .args .how) in
+    let flags = c .before .before .before .before .before .before .before .before .before .before .before .u64-at in
+    let resolve = c .before .before .before .before .before .before .before .before .before .before .u64-at2 in
+    let steps = read-steps how (flags .result) (resolve .result) (flags .ensures .0) (resolve .ensures .0) in
+    let length-passes = passed (lengthRefused how) (sym (c .before .before .before .before .before .before .before .before .before .before .before .before .before .before .check-length .ensures) ∙ c .before .before .before .before .before .before .before .before .before .before .before .before .enum-told .given .1) in
+    let flags-pass = passed (flagsRefused (flags .result)) (sym (c .before .before .before .before .before .before .before .before .before .check-bits .ensures) ∙ c .before .before .before .before .before .before .before .enum-told2 .given .1) in
+    let resolve-passes = passed (resolveRefused (resolve .result)) (sym (c .before .before .before .before .before .before .check-bits2 .ensures) ∙ c .before .before .before .before .enum-told3 .given .1) in
+    rw (steps, length-passes, flags-pass, resolve-passes, stopped (scopesRefused (resolve .result)) (c .before .r4 .given .0 .0) (sym (c .before .before .before .check-scopes .ensures) ∙ c .before .r4 .given .1))
+
+enum-told-4 : tie.Need-enum-told-4
+enum-told-4 c = search needs
+
+check-mode-requires : tie.Need-check-mode-requires
+check-mode-requires c κs = omega (arith, length-long (now (c .before .before .before .before .before .before .before .before .before .before .before .before .before .before .before .args .how)) (passed _ (sym (c .before .before .before .before .before .before .before .before .before .before .before .before .before .check-length .ensures) ∙ c .before .before .before .before .before .before .before .before .before .before .before .enum-told .given .1)))
+
+enum-known-r-5 : tie.Need-enum-known-r-5
+enum-known-r-5 c = search needs
+
+returns-5 : tie.Need-returns-5
+unfolding readHow
+returns-5 c =
+    let how = now (c .before .before .before .before .before .before .before .before .before .before .before .before .before .before .before .before .before .before .before .args .how) in
+    let flags = c .before .before .before .before .before .before .before .before .before .before .before .before .before .before .u64-at in
+    let resolve = c .before .before .before .before .before .before .before .before .before .before .before .before .before .u64-at2 in
+    let steps = read-steps how (flags .result) (resolve .result) (flags .ensures .0) (resolve .ensures .0) in
+    let length-passes = passed (lengthRefused how) (sym (c .before .before .before .before .before .before .before .before .before .before .before .before .before .before .before .before .before .check-length .ensures) ∙ c .before .before .before .before .before .before .before .before .before .before .before .before .before .before .before .enum-told .given .1) in
+    let flags-pass = passed (flagsRefused (flags .result)) (sym (c .before .before .before .before .before .before .before .before .before .before .before .before .check-bits .ensures) ∙ c .before .before .before .before .before .before .before .before .before .before .enum-told2 .given .1) in
+    let resolve-passes = passed (resolveRefused (resolve .result)) (sym (c .before .before .before .before .before .before .before .before .before .check-bits2 .ensures) ∙ c .before .before .before .before .before .before .before .enum-told3 .given .1) in
+    let scopes-pass = passed (scopesRefused (resolve .result)) (sym (c .before .before .before .before .before .before .check-scopes .ensures) ∙ c .before .before .before .before .enum-told4 .given .1) in
+    rw (steps, length-passes, flags-pass, resolve-passes, scopes-pass, stopped (modeRefused how) (c .before .r5 .given .0 .0) (sym (c .before .before .before .check-mode .ensures) ∙ c .before .r5 .given .1))
+
+enum-told-5 : tie.Need-enum-told-5
+enum-told-5 c = search needs
+
+returns-6 : tie.Need-returns-6
+unfolding readHow
+returns-6 c =
+    let how = now (c .before .before .before .before .before .before .before .before .before .before .before .before .before .before .before .before .before .before .args .how) in
+    let flags = c .before .before .before .before .before .before .before .before .before .before .before .before .before .u64-at in
+    let resolve = c .before .before .before .before .before .before .before .before .before .before .before .before .u64-at2 in
+    let steps = read-steps how (flags .result) (resolve .result) (flags .ensures .0) (resolve .ensures .0) in
+    let length-passes = passed (lengthRefused how) (sym (c .before .before .before .before .before .before .before .before .before .before .before .before .before .before .before .before .check-length .ensures) ∙ c .before .before .before .before .before .before .before .before .before .before .before .before .before .before .enum-told .given .1) in
+    let flags-pass = passed (flagsRefused (flags .result)) (sym (c .before .before .before .before .before .before .before .before .before .before .before .check-bits .ensures) ∙ c .before .before .before .before .before .before .before .before .before .enum-told2 .given .1) in
+    let resolve-passes = passed (resolveRefused (resolve .result)) (sym (c .before .before .before .before .before .before .before .before .check-bits2 .ensures) ∙ c .before .before .before .before .before .before .enum-told3 .given .1) in
+    let scopes-pass = passed (scopesRefused (resolve .result)) (sym (c .before .before .before .before .before .check-scopes .ensures) ∙ c .before .before .before .enum-told4 .given .1) in
+    let mode-passes = passed (modeRefused how) (sym (c .before .before .check-mode .ensures) ∙ c .enum-told5 .given .1) in
+    rw (steps, length-passes, flags-pass, resolve-passes, scopes-pass, mode-passes)
+    (ap Fields (sym (read-fields how (flags .result) (resolve .result) (flags .ensures .0) (resolve .ensures .0))))
+
+pub read-how-spec : {M : Type 1} → statement M
+read-how-spec =
+    tie.close
+    (tie.spec
+    check-length-requires
+    enum-known-r
+    returns
+    enum-told
+    u64-at-requires
+    u64-at-requires-2
+    check-bits-requires
+    enum-known-r-2
+    returns-2
+    enum-told-2
+    check-bits-requires-2
+    enum-known-r-3
+    returns-3
+    enum-told-3
+    check-scopes-requires
+    enum-known-r-4
+    returns-4
+    enum-told-4
+    check-mode-requires
+    enum-known-r-5
+    returns-5
+    enum-told-5
+    returns-6)

@@ -1,0 +1,2 @@
+-- What the checks before the walk answer.
+pub mod Checks

@@ -1,0 +1,24 @@
+// The checks of the given path.
+use crate::Check;
+use crate::refuse;
+use image::strings::holds_byte;
+use model::Errno;
+ghost use mathlib.Core.Path.{_≡_};
+ghost use Rattle.model.specs.Path.{pathRefused};
+ghost use Rattle.call.specs.Checks.{checkOf};
+
+// In this order: too long, empty, zero byte.
+pub fn check_path(path: &[u8]) -> Check
+    ensures { λ r. ⌜ r ≡ checkOf (pathRefused (now (path .entry))) ⌝ }
+{
+    if 4095 < path.len() {
+        return refuse(Errno::Enametoolong);
+    }
+    if path.len() == 0 {
+        return refuse(Errno::Enoent);
+    }
+    if holds_byte(path, 0) {
+        return refuse(Errno::Einval);
+    }
+    Check::Passes
+}
