@@ -1,0 +1,4 @@
+mod WalkLaws
+mod PendingLaws
+mod OpenLaws
+mod StepLaws

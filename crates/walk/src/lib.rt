@@ -1,0 +1,340 @@
+// The walk: a state that goes forward one component at a time over the open texts, and the run over it.
+use component::Ask;
+use component::Outcome;
+use component::take_component;
+use image::records::Counts;
+use image::records::node_kind;
+use image::texts::body;
+use model::Answer;
+use model::Errno;
+use model::Place;
+use model::Progress;
+use model::Reached;
+use model::Refusal;
+use model::State;
+use text::component_end;
+use text::ends_in_slash;
+use text::skip_slashes;
+use text::text_of;
+ghost use mathlib.Core.Bool.{_&&_, _||_};
+ghost use mathlib.Core.Path.{_≡_};
+ghost use lib.Dec.{eqb};
+ghost use Prim.Native.Nat.{ℕ, _≤_, _<_};
+ghost use lib.ListN.{length};
+ghost use Rattle.model.specs.Tree.{treeOf};
+ghost use Rattle.model.specs.Answers.{refused};
+ghost use Rattle.model.specs.Walk.{taken, standingOn, followedTo, finish, isEmpty};
+ghost use Rattle.theorems.proofs.Inside.{Inside};
+ghost use Rattle.component.specs.Outcomes.{requestFor};
+ghost use Rattle.component.specs.Walking.{Walking};
+ghost use Rattle.image.specs.Counts.{Counted};
+ghost use Rattle.walk.specs.Open.{pending, rest, budget, Resting, Standing, Leads, OutcomeInside, proceed, Entered, Stepped};
+
+// A walk between two components: its state, the text that it reads and where in it, and how many texts are suspended behind that.
+pub struct Walk {
+    pub state: State,
+    pub text: usize,
+    pub at: usize,
+    pub depth: usize,
+}
+
+// The next state, or the end with its answer.
+pub enum Next {
+    More(Walk),
+    End(Answer),
+}
+
+fn refuse(errno: Errno, progress: Progress) -> Answer
+    ensures { λ r. ⌜ r ≡ refused errno progress ⌝ }
+{
+    Answer::Refused(Refusal {
+        errno,
+        detail: 255,
+        progress,
+    })
+}
+
+// The end: a directory where one is required, and no link without O_PATH.
+fn finish(image: &[u8], c: Counts, k: Ask, s: State) -> Answer
+    requires { ⌜ Walking (now image) c k × Inside (treeOf (now image)) (s .place) ⌝ }
+    ensures { λ r. ⌜ r ≡ finish (requestFor (now (image .entry)) k) s ⌝ }
+{
+    let place = s.place;
+    let progress = s.progress;
+    let kind = node_kind(image, place.node);
+    if kind == 1 {
+        return Answer::Found(Reached { place, progress });
+    }
+    if s.directory {
+        return refuse(Errno::Enotdir, progress);
+    }
+    if kind == 2 {
+        return Answer::Found(Reached { place, progress });
+    }
+    if k.opath {
+        return Answer::Found(Reached { place, progress });
+    }
+    refuse(Errno::Eloop, progress)
+}
+
+// After a component: on in the same text, back in the one suspended last, or at the end. A suspended text has a component left, so
+// one step back is enough.
+fn advance<'a>(image: &'a [u8], c: Counts, k: Ask, path: &'a [u8], stack: &[u32], w: Walk) -> Next
+    requires { ⌜ Walking (now image) c k × Resting (now image) (now path) (now stack) w ⌝ }
+    ensures { λ r. ⌜ Leads (now (image .entry)) k (now (path .entry)) (now (stack .entry)) (rest (now (image .entry)) k (now (path .entry)) (now (stack .entry)) w) (budget (now (image .entry)) (now (path .entry)) (now (stack .entry)) w) r ⌝ }
+{
+    let depth = w.depth;
+    let here = text_of(image, c, path, w.text);
+    if w.at < here.len() {
+        return Next::More(w);
+    }
+    if depth == 0 {
+        return Next::End(finish(image, c, k, w.state));
+    }
+    let state = w.state;
+    let v = stack[depth - 1] as usize;
+    Next::More(Walk {
+        state,
+        text: v / 4096,
+        at: v % 4096,
+        depth: depth - 1,
+    })
+}
+
+fn taken(s: State) -> State
+    requires { ⌜ s .progress .components < 83968 ⌝ }
+    ensures { λ r. ⌜ r ≡ taken s ⌝ }
+{
+    let place = s.place;
+    let progress = s.progress;
+    State {
+        place,
+        progress: Progress {
+            components: progress.components + 1,
+            links: progress.links,
+        },
+        directory: s.directory,
+    }
+}
+
+fn standing_on(p: Place, s: State) -> State
+    ensures { λ r. ⌜ r ≡ standingOn p s ⌝ }
+{
+    let progress = s.progress;
+    State {
+        place: p,
+        progress,
+        directory: s.directory,
+    }
+}
+
+fn either(a: bool, b: bool) -> bool
+    ensures { λ r. ⌜ r ≡ a || b ⌝ }
+{
+    if a {
+        return true;
+    }
+    b
+}
+
+fn both(a: bool, b: bool) -> bool
+    ensures { λ r. ⌜ r ≡ a && b ⌝ }
+{
+    if a {
+        return b;
+    }
+    false
+}
+
+fn followed_to(p: Place, slash: bool, s: State) -> State
+    requires { ⌜ s .progress .links < 40 ⌝ }
+    ensures { λ r. ⌜ r ≡ followedTo p slash s ⌝ }
+{
+    let progress = s.progress;
+    let directory = either(s.directory, slash);
+    State {
+        place: p,
+        progress: Progress {
+            components: progress.components,
+            links: progress.links + 1,
+        },
+        directory,
+    }
+}
+
+// Starts on the body of a link, at its first component; what is left of the present text is suspended, if anything is.
+fn enter_body<'a>(
+    image: &'a [u8],
+    c: Counts,
+    path: &'a [u8],
+    stack: &mut [u32],
+    w: Walk,
+    s: State,
+    n: usize,
+    start: usize,
+) -> Walk
+    requires { ⌜ Counted (now image) c × Resting (now image) (now path) (now stack) w × (w .depth < 40) × (n ≤ 65535) ⌝ }
+    ensures { λ r. ⌜ Entered (now (image .entry)) (now (path .entry)) (now (stack .entry)) w s n start (now (stack .exit)) r ⌝ }
+{
+    let depth = w.depth;
+    let text = w.text;
+    let at = w.at;
+    let here = text_of(image, c, path, text);
+    if at < here.len() {
+        stack[depth] = (text * 4096 + at) as u32;
+        return Walk {
+            state: s,
+            text: n,
+            at: start,
+            depth: depth + 1,
+        };
+    }
+    Walk {
+        state: s,
+        text: n,
+        at: start,
+        depth,
+    }
+}
+
+// Reads the body of a symbolic link from a place. A body of slashes alone has no component: the walk goes on behind the link.
+fn open<'a>(
+    image: &'a [u8],
+    c: Counts,
+    k: Ask,
+    path: &'a [u8],
+    stack: &mut [u32],
+    w: Walk,
+    last: bool,
+    n: usize,
+    p: Place,
+) -> Next
+    requires { ⌜ Walking (now image) c k × Resting (now image) (now path) (now stack) w × OutcomeInside (treeOf (now image)) (w .state .progress .links) (Outcome.Read n p) × (last ≡ isEmpty (pending (treeOf (now image)) (now path) (now stack) w)) ⌝ }
+    ensures { λ r. ⌜ Leads (now (image .entry)) k (now (path .entry)) (now (stack .exit)) (proceed (now (image .entry)) k (now (path .entry)) (now (stack .entry)) w (Outcome.Read n p)) (budget (now (image .entry)) (now (path .entry)) (now (stack .entry)) w) r × (length (now (stack .exit)) ≡ length (now (stack .entry))) ⌝ }
+{
+    let text = body(image, c, n);
+    let state = followed_to(p, both(last, ends_in_slash(text)), w.state);
+    let start = skip_slashes(text, 0);
+    if start == text.len() {
+        let at = w.at;
+        let behind = Walk {
+            state,
+            text: w.text,
+            at,
+            depth: w.depth,
+        };
+        return advance(image, c, k, path, stack, behind);
+    }
+    Next::More(enter_body(image, c, path, stack, w, state, n, start))
+}
+
+// What an outcome comes to; `w` has taken the component and stands behind it.
+fn proceed<'a>(
+    image: &'a [u8],
+    c: Counts,
+    k: Ask,
+    path: &'a [u8],
+    stack: &mut [u32],
+    w: Walk,
+    last: bool,
+    o: Outcome,
+) -> Next
+    requires { ⌜ Walking (now image) c k × Resting (now image) (now path) (now stack) w × OutcomeInside (treeOf (now image)) (w .state .progress .links) o × (last ≡ isEmpty (pending (treeOf (now image)) (now path) (now stack) w)) ⌝ }
+    ensures { λ r. ⌜ Leads (now (image .entry)) k (now (path .entry)) (now (stack .exit)) (proceed (now (image .entry)) k (now (path .entry)) (now (stack .entry)) w o) (budget (now (image .entry)) (now (path .entry)) (now (stack .entry)) w) r × (length (now (stack .exit)) ≡ length (now (stack .entry))) ⌝ }
+{
+    let state = w.state;
+    match o {
+        Outcome::Stop(errno) => Next::End(refuse(errno, state.progress)),
+        Outcome::Go(p) => {
+            let on = Walk {
+                state: standing_on(p, state),
+                text: w.text,
+                at: w.at,
+                depth: w.depth,
+            };
+            advance(image, c, k, path, stack, on)
+        }
+        Outcome::Target(p) => {
+            let on = Walk {
+                state: followed_to(p, false, state),
+                text: w.text,
+                at: w.at,
+                depth: w.depth,
+            };
+            advance(image, c, k, path, stack, on)
+        }
+        Outcome::Read(n, p) => open(image, c, k, path, stack, w, last, n, p),
+    }
+}
+
+// A component is last if its own text has ended behind it and no text is suspended.
+fn is_last(next: usize, end: usize, depth: usize) -> bool
+    ensures { λ r. ⌜ r ≡ eqb next end && eqb depth 0 ⌝ }
+{
+    if next != end {
+        return false;
+    }
+    depth == 0
+}
+
+impl Walk {
+    // One component.
+    pub fn step<'a>(
+        self,
+        image: &'a [u8],
+        c: Counts,
+        k: Ask,
+        path: &'a [u8],
+        stack: &mut [u32],
+    ) -> Next
+        requires { ⌜ Walking (now image) c k × Standing (now image) (now path) (now stack) self ⌝ }
+        ensures { λ r. ⌜ Stepped (now (image .entry)) k (now (path .entry)) (now (stack .entry)) self (now (stack .exit)) r ⌝ }
+    {
+        let state = self.state;
+        let place = state.place;
+        let progress = state.progress;
+        if node_kind(image, place.node) != 1 {
+            return Next::End(refuse(Errno::Enotdir, progress));
+        }
+        let at = self.at;
+        let depth = self.depth;
+        let here = text_of(image, c, path, self.text);
+        let end = component_end(here, at);
+        let next = skip_slashes(here, end);
+        let last = is_last(next, here.len(), depth);
+        let o = take_component(image, c, k, last, progress.links, place, &here[at..end]);
+        let behind = Walk {
+            state: taken(state),
+            text: self.text,
+            at: next,
+            depth,
+        };
+        proceed(image, c, k, path, stack, behind, last, o)
+    }
+}
+
+// All components, one after the other.
+pub fn run<'a>(
+    image: &'a [u8],
+    c: Counts,
+    k: Ask,
+    path: &'a [u8],
+    w: Walk,
+    stack: &mut [u32],
+) -> Answer
+    requires { ⌜ Walking (now image) c k × Standing (now image) (now path) (now stack) w ⌝ }
+    ensures { λ r. ⌜ r ≡ rest (now (image .entry)) k (now (path .entry)) (now (stack .entry)) w ⌝ }
+{
+    let mut at = w;
+    loop {
+        let next = at.step(image, c, k, path, stack);
+        match next {
+            Next::More(on) => {
+                at = on;
+            }
+            Next::End(answer) => {
+                return answer;
+            }
+        }
+    }
+}
