@@ -99,3 +99,10 @@ module _ (s : List ℕ) (k : Ask) (c : Counts) (walking : Walking s c k) (path s
       ap (λ cs. Rattle.model.specs.Trace.answer (restrictionsFor k) (walk (requestFor s k) (linksLeft (w .state)) cs (w .state))) one-pending
       ∙ walk-on (restrictionsFor k) (requestFor s k) (linksLeft (w .state)) (omega arith) _ _ (w .state) d
       ∙ ap (λ (n : ℕ). proceed s k path stack (behind (nextStart (textOf (treeOf s) path (w .text)) (w .at))) (outcome (restrictionsFor k) n (oneComponent (requestFor s k) (isEmpty (pending (treeOf s) path stack (behind (nextStart (textOf (treeOf s) path (w .text)) (w .at))))) (w .state .place) (componentBytes (textOf (treeOf s) path (w .text)) (w .at))))) back
+
+  -- where the component leads is in the tree
+  pub leads-inside : isDirectory (treeOf s) (w .state .place .node) ≡ true → (last : Bool) (bytes : List ℕ)
+      → OutcomeInside (treeOf s) (w .state .progress .links) (outcome (restrictionsFor k) (w .state .progress .links) (oneComponent (requestFor s k) last (w .state .place) bytes))
+  leads-inside d last bytes =
+      outcome-inside (treeOf s) (restrictionsFor k) (w .state .progress .links) (oneComponent (requestFor s k) last (w .state .place) bytes)
+      (one-component-inside (requestFor s k) (accepted-sound s (walking .reading .accepted)) (walking .root-inside) last (w .state .place) (here .resting .inside) d bytes)

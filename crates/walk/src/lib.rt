@@ -44,7 +44,7 @@ pub enum Next {
     End(Answer),
 }
 
-fn refuse(errno: Errno, progress: Progress) -> Answer
+pub fn refuse(errno: Errno, progress: Progress) -> Answer
     ensures { λ r. ⌜ r ≡ refused errno progress ⌝ }
 {
     Answer::Refused(Refusal {
@@ -55,7 +55,7 @@ fn refuse(errno: Errno, progress: Progress) -> Answer
 }
 
 // The end: a directory where one is required, and no link without O_PATH.
-fn finish(image: &[u8], c: Counts, k: Ask, s: State) -> Answer
+pub fn finish(image: &[u8], c: Counts, k: Ask, s: State) -> Answer
     requires { ⌜ Walking (now image) c k × Inside (treeOf (now image)) (s .place) ⌝ }
     ensures { λ r. ⌜ r ≡ finish (requestFor (now (image .entry)) k) s ⌝ }
 {

@@ -1,0 +1,202 @@
+// The resolver: a table image, a handle, a path and an open_how of any bytes to the answer.
+use call::CallRead;
+use call::check_call;
+use call::how::How;
+use component::Ask;
+use component::bits::beneath;
+use component::bits::in_root;
+use image::records::Counts;
+use image::records::mount_root;
+use image::records::read_counts;
+use model::Answer;
+use model::Errno;
+use model::Handle;
+use model::Place;
+use model::Progress;
+use model::State;
+use model::Verdict;
+use table::check;
+use text::ends_in_slash;
+use text::is_absolute;
+use text::skip_slashes;
+use walk::Walk;
+use walk::finish;
+use walk::refuse;
+use walk::run;
+ghost use mathlib.Core.Bool.{not, _||_};
+ghost use mathlib.Core.Path.{_≡_};
+ghost use Prim.Native.Nat.{ℕ, _≤_};
+ghost use lib.ListN.{length};
+ghost use Rattle.model.specs.Bytes.{has};
+ghost use Rattle.model.specs.OpenHow.{O-DIRECTORY, O-NOFOLLOW, O-PATH};
+ghost use Rattle.model.specs.Path.{endsInSlash};
+ghost use Rattle.model.specs.Tree.{treeOf};
+ghost use Rattle.model.specs.TableCheck.{tableCheck};
+ghost use Rattle.model.specs.Trace.{answer};
+ghost use Rattle.model.specs.Walk.{beginAt, walkPath};
+ghost use Rattle.model.specs.Resolve.{resolve};
+ghost use Rattle.model.specs.declared.Verdict.the-variants.{Accepted};
+ghost use Rattle.theorems.proofs.Inside.{Inside};
+ghost use Rattle.component.specs.Outcomes.{requestFor, restrictionsFor};
+ghost use Rattle.component.specs.Walking.{Reading, Walking};
+ghost use Rattle.resolver.specs.Asking.{rootFor, askOf};
+
+// A walk from a place: a path of slashes alone has no component.
+fn begin<'a>(image: &'a [u8], c: Counts, k: Ask, path: &'a [u8], directory: bool, p: Place) -> Answer
+    requires { ⌜ Walking (now image) c k × Inside (treeOf (now image)) p × (length (now path) ≤ 4095) ⌝ }
+    ensures { λ r. ⌜ r ≡ answer (restrictionsFor k) (beginAt (requestFor (now (image .entry)) k) directory (now (path .entry)) p) ⌝ }
+{
+    let start = skip_slashes(path, 0);
+    let state = State {
+        place: p,
+        progress: Progress {
+            components: 0,
+            links: 0,
+        },
+        directory,
+    };
+    if start == path.len() {
+        return finish(image, c, k, state);
+    }
+    let mut stack = [0u32; 40];
+    let w = Walk {
+        state,
+        text: 65535,
+        at: start,
+        depth: 0,
+    };
+    run(image, c, k, path, w, &mut stack)
+}
+
+// Start is met by an absolute path, with both counts 0.
+fn walk_path<'a>(image: &'a [u8], c: Counts, k: Ask, path: &'a [u8], directory: bool) -> Answer
+    requires { ⌜ Walking (now image) c k × Inside (treeOf (now image)) (k .handle) × (length (now path) ≤ 4095) ⌝ }
+    ensures { λ r. ⌜ r ≡ answer (restrictionsFor k) (walkPath (requestFor (now (image .entry)) k) directory (now (path .entry))) ⌝ }
+{
+    let handle = k.handle;
+    if !is_absolute(path) {
+        return begin(image, c, k, path, directory, handle);
+    }
+    let none = Progress {
+        components: 0,
+        links: 0,
+    };
+    if k.mark {
+        return refuse(Errno::Enoent, none);
+    }
+    if beneath(k.resolve) {
+        return refuse(Errno::Exdev, none);
+    }
+    let root = k.root;
+    begin(image, c, k, path, directory, root)
+}
+
+fn has_directory(flags: u64) -> bool
+    ensures { λ r. ⌜ r ≡ has O-DIRECTORY flags ⌝ }
+{
+    flags / 65536 % 2 == 1
+}
+
+fn has_nofollow(flags: u64) -> bool
+    ensures { λ r. ⌜ r ≡ has O-NOFOLLOW flags ⌝ }
+{
+    flags / 131072 % 2 == 1
+}
+
+fn has_path(flags: u64) -> bool
+    ensures { λ r. ⌜ r ≡ has O-PATH flags ⌝ }
+{
+    flags / 2097152 % 2 == 1
+}
+
+// "A last link is followed unless O_NOFOLLOW is set and the given path does not end in "/"."
+fn follows_last(flags: u64, slash: bool) -> bool
+    ensures { λ r. ⌜ r ≡ not (has O-NOFOLLOW flags) || slash ⌝ }
+{
+    if has_nofollow(flags) {
+        return slash;
+    }
+    true
+}
+
+// "A directory is required by O_DIRECTORY, by a "/" ending the path, .."
+fn needs_directory(flags: u64, slash: bool) -> bool
+    ensures { λ r. ⌜ r ≡ has O-DIRECTORY flags || slash ⌝ }
+{
+    if has_directory(flags) {
+        return true;
+    }
+    slash
+}
+
+// "The root is the handle under IN_ROOT, else mount 0's root."
+fn root_of(image: &[u8], c: Counts, h: Handle, resolve: u64) -> Place
+    requires { ⌜ Reading (now image) c ⌝ }
+    ensures { λ r. ⌜ r ≡ rootFor (now (image .entry)) h resolve ⌝ }
+{
+    if in_root(resolve) {
+        return Place {
+            mount: h.mount,
+            node: h.node,
+        };
+    }
+    let node = mount_root(image, c, 0);
+    Place { mount: 0, node }
+}
+
+// What the walk is asked, from the handle and the open_how's fields.
+fn ask(image: &[u8], c: Counts, h: Handle, f: How, slash: bool) -> Ask
+    requires { ⌜ Reading (now image) c ⌝ }
+    ensures { λ r. ⌜ r ≡ askOf (now (image .entry)) h f slash ⌝ }
+{
+    let resolve = f.resolve;
+    let flags = f.flags;
+    let root = root_of(image, c, h, resolve);
+    let follow = follows_last(flags, slash);
+    let opath = has_path(flags);
+    Ask {
+        handle: Place {
+            mount: h.mount,
+            node: h.node,
+        },
+        root,
+        mark: h.mark,
+        resolve,
+        follow,
+        opath,
+    }
+}
+
+// The answer over a table that was accepted before, for a caller who checked it once.
+pub fn resolve_accepted<'a>(image: &'a [u8], h: Handle, path: &'a [u8], how: &[u8]) -> Answer
+    requires { ⌜ tableCheck (now image) ≡ Accepted ⌝ }
+    ensures { λ r. ⌜ r ≡ resolve (now (image .entry)) h (now (path .entry)) (now (how .entry)) ⌝ }
+{
+    let c = read_counts(image);
+    let read = check_call(image, c, h, path, how);
+    match read {
+        CallRead::Walks(f) => {
+            let slash = ends_in_slash(path);
+            let k = ask(image, c, h, f, slash);
+            walk_path(image, c, k, path, needs_directory(f.flags, slash))
+        }
+        CallRead::Refused(r) => Answer::Refused(r),
+    }
+}
+
+// The answer, for any bytes at all.
+pub fn resolve<'a>(image: &'a [u8], h: Handle, path: &'a [u8], how: &[u8]) -> Answer
+    ensures { λ r. ⌜ r ≡ resolve (now (image .entry)) h (now (path .entry)) (now (how .entry)) ⌝ }
+{
+    let verdict = check(image);
+    match verdict {
+        Verdict::Accepted => resolve_accepted(image, h, path, how),
+        Verdict::Broken { rule: _, record: _ } => refuse(
+            Errno::Euclean,
+            Progress {
+                components: 0,
+                links: 0,
+            },
+        ),
+    }
+}
