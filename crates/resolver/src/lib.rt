@@ -42,7 +42,14 @@ ghost use Rattle.component.specs.Walking.{Reading, Walking};
 ghost use Rattle.resolver.specs.Asking.{rootFor, askOf};
 
 // A walk from a place: a path of slashes alone has no component.
-fn begin<'a>(image: &'a [u8], c: Counts, k: Ask, path: &'a [u8], directory: bool, p: Place) -> Answer
+fn begin<'a>(
+    image: &'a [u8],
+    c: Counts,
+    k: Ask,
+    path: &'a [u8],
+    directory: bool,
+    p: Place,
+) -> Answer
     requires { ⌜ Walking (now image) c k × Inside (treeOf (now image)) p × (length (now path) ≤ 4095) ⌝ }
     ensures { λ r. ⌜ r ≡ answer (restrictionsFor k) (beginAt (requestFor (now (image .entry)) k) directory (now (path .entry)) p) ⌝ }
 {

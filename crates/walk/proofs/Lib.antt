@@ -1,4 +1,4 @@
-mod WalkLaws
+pub mod WalkLaws
 mod PendingLaws
 mod OpenLaws
 mod StepLaws

@@ -139,11 +139,12 @@ proceed-requires c κs =
     let d = is-directory t (w .state .place .node) (c .before .before .before .before .before .before .before .before .before .before .before .before .before .before .before .before .pre .1 .resting .inside .node-below) kind in
     let bytes : take (c .before .before .before .before .before .before .component-end .result - w .at) (drop (w .at) (now (c .before .before .before .before .before .before .before .text-of .result))) ≡ componentBytes x (w .at) = ap₂ (λ m y. take (m - w .at) (drop (w .at) y)) e1 h in
     let o : c .before .before .take-component .result ≡ outcome (restrictionsFor k) (w .state .progress .links) (oneComponent (requestFor s k) (isEmpty (pending t path stack (behind s k (c .before .before .before .before .before .before .before .before .before .before .before .before .before .before .before .before .args .c) (c .before .before .before .before .before .before .before .before .before .before .before .before .before .before .before .before .pre .0) path stack w (c .before .before .before .before .before .before .before .before .before .before .before .before .before .before .before .before .pre .1) next))) (w .state .place) (componentBytes x (w .at))) = c .before .before .take-component .ensures ∙ ap₂ (λ l y. outcome (restrictionsFor k) (w .state .progress .links) (oneComponent (requestFor s k) l (w .state .place) y)) last bytes in
-    let same : record { state = c .before .taken .result; text = w .text; at = c .before .before .before .before .before .skip-slashes .result; depth = w .depth } ≡ behind s k (c .before .before .before .before .before .before .before .before .before .before .before .before .before .before .before .before .args .c) (c .before .before .before .before .before .before .before .before .before .before .before .before .before .before .before .before .pre .0) path stack w (c .before .before .before .before .before .before .before .before .before .before .before .before .before .before .before .before .pre .1) next = ap₂ (λ st m. record { state = st; text = w .text; at = m; depth = w .depth }) (c .before .taken .ensures) e2 in
-    (c .before .before .before .before .before .before .before .before .before .before .before .before .before .before .before .before .pre .0,
-    subst (Resting s path stack) (sym same) (behind-resting s k (c .before .before .before .before .before .before .before .before .before .before .before .before .before .before .before .before .args .c) (c .before .before .before .before .before .before .before .before .before .before .before .before .before .before .before .before .pre .0) path stack w (c .before .before .before .before .before .before .before .before .before .before .before .before .before .before .before .before .pre .1)),
-    subst₂ (λ v y. OutcomeInside t (v .state .progress .links) y) (sym same) (sym o) (leads-inside s k (c .before .before .before .before .before .before .before .before .before .before .before .before .before .before .before .before .args .c) (c .before .before .before .before .before .before .before .before .before .before .before .before .before .before .before .before .pre .0) path stack w (c .before .before .before .before .before .before .before .before .before .before .before .before .before .before .before .before .pre .1) d (isEmpty (pending t path stack (behind s k (c .before .before .before .before .before .before .before .before .before .before .before .before .before .before .before .before .args .c) (c .before .before .before .before .before .before .before .before .before .before .before .before .before .before .before .before .pre .0) path stack w (c .before .before .before .before .before .before .before .before .before .before .before .before .before .before .before .before .pre .1) next))) (componentBytes x (w .at))),
-    last ∙ ap (λ v. isEmpty (pending t path stack v)) (sym same))
+    let same : record { state = c .before .taken .result; text = w .text; at = c .before .before .before .before .before .skip-slashes .result; depth = w .depth } ≡ behind s k (c .before .before .before .before .before .before .before .before .before .before .before .before .before .before .before .before .args .c) (c .before .before .before .before .before .before .before .before .before .before .before .before .before .before .before .before .pre .0) path stack w (c .before .before .before .before .before .before .before .before .before .before .before .before .before .before .before .before .pre .1) next = ap₂ (λ st m. record { state = st; text = w .text; at = m; depth = w .depth }) (c .before .taken .ensures) e2 in (
+      c .before .before .before .before .before .before .before .before .before .before .before .before .before .before .before .before .pre .0,
+      subst (Resting s path stack) (sym same) (behind-resting s k (c .before .before .before .before .before .before .before .before .before .before .before .before .before .before .before .before .args .c) (c .before .before .before .before .before .before .before .before .before .before .before .before .before .before .before .before .pre .0) path stack w (c .before .before .before .before .before .before .before .before .before .before .before .before .before .before .before .before .pre .1)),
+      subst₂ (λ v y. OutcomeInside t (v .state .progress .links) y) (sym same) (sym o) (leads-inside s k (c .before .before .before .before .before .before .before .before .before .before .before .before .before .before .before .before .args .c) (c .before .before .before .before .before .before .before .before .before .before .before .before .before .before .before .before .pre .0) path stack w (c .before .before .before .before .before .before .before .before .before .before .before .before .before .before .before .before .pre .1) d (isEmpty (pending t path stack (behind s k (c .before .before .before .before .before .before .before .before .before .before .before .before .before .before .before .before .args .c) (c .before .before .before .before .before .before .before .before .before .before .before .before .before .before .before .before .pre .0) path stack w (c .before .before .before .before .before .before .before .before .before .before .before .before .before .before .before .before .pre .1) next))) (componentBytes x (w .at))),
+      last ∙ ap (λ v. isEmpty (pending t path stack v)) (sym same),
+    )
 
 -- src/lib.rt:254:5
 same-length : tie.Need-same-length

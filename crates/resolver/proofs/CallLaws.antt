@@ -1,0 +1,93 @@
+-- A call over an accepted table, from what its checks read to its answer. Assumes nothing.
+use Prim.Native.Nat.{ℕ, _≤_}
+use mathlib.Core.Bool.{Bool, _||_}
+use mathlib.Core.List.{List}
+use mathlib.Core.Option.{Option, some, none}
+use mathlib.Core.Path.{_≡_, refl, sym, ap, ap₂, _∙_, subst, fun-ext}
+use native.Mathlib.Omega.{arith}
+use Rattle.model.specs.Bytes.{has}
+use Rattle.model.specs.OpenHow.{O-DIRECTORY, IN-ROOT, flagsOf}
+use Rattle.model.specs.Path.{endsInSlash}
+use Rattle.model.specs.Trace.{Restriction, mark, beneath, noXdev, noSymlinks, noMagiclinks, answer}
+use lib.ListN.{length}
+use Rattle.model.specs.Answers.{notWalked, refused}
+use Rattle.model.specs.TableCheck.{tableCheck}
+use Rattle.model.specs.declared.Errno.the-variants.{Euclean}
+use Rattle.model.specs.declared.Verdict.the-variants.{Broken}
+use Rattle.model.specs.Handles.{placeOf}
+use Rattle.model.specs.Tree.{treeOf}
+use Rattle.model.specs.Walk.{rootOf, walkPath}
+use Rattle.theorems.proofs.Acceptance.{accepted-sound}
+use Rattle.theorems.proofs.Cases.{cond-cases}
+use Rattle.theorems.proofs.Inside.{Inside, root-inside}
+use Rattle.theorems.proofs.Refusals.{unrefused, path-short, handle-inside}
+use Rattle.image.specs.declared.records.Counts.{Counts}
+use Rattle.component.specs.Walking.{Reading, Walking}
+use Rattle.component.specs.declared.Ask.{Ask}
+use Rattle.model.specs.Resolve.{refusedBefore, restrictions, requestOf, traceOf, unlessRefused, resolve}
+use Rattle.model.specs.declared.Handle.{Handle}
+use Rattle.model.specs.declared.Refusal.{Refusal}
+use Rattle.model.specs.declared.Answer.the-variants.{Refused}
+use Rattle.call.specs.Checks.{fieldsOf, walksUnless}
+use Rattle.call.specs.declared.how.How.{How}
+use Rattle.call.specs.declared.CallRead.{CallRead}
+use Rattle.call.specs.declared.CallRead.the-variants.{Walks, Refused as CallRefused}
+use Rattle.component.specs.Outcomes.{requestFor, restrictionsFor}
+use Rattle.resolver.specs.Asking.{askOf}
+
+pub walks-none : (o : Option Refusal) (f g : How) → walksUnless o f ≡ Walks g → (o ≡ none) × (f ≡ g)
+walks-none none f g e = (refl, cc)
+walks-none (some r) f g e = let z : _≡_ {A = ℕ} 0 1 = cc in absurd (omega arith)
+
+pub refused-some : (o : Option Refusal) (f : How) (r : Refusal) → walksUnless o f ≡ CallRefused r → o ≡ some r
+refused-some none f r e = let z : _≡_ {A = ℕ} 0 1 = cc in absurd (omega arith)
+refused-some (some q) f r e = cc
+
+module _ (s : List ℕ) (h : Handle) (path how : List ℕ) where
+  same-restrictions : (r : Restriction) → restrictionsFor (askOf s h (fieldsOf how) (endsInSlash path)) r ≡ restrictions h how r
+  unfolding restrictions
+  same-restrictions mark = refl
+  same-restrictions beneath = refl
+  same-restrictions noXdev = refl
+  same-restrictions noSymlinks = refl
+  same-restrictions noMagiclinks = refl
+
+  -- the walk of what the call asks is the definition's answer
+  pub asked : refusedBefore s h path how ≡ none
+      → answer (restrictionsFor (askOf s h (fieldsOf how) (endsInSlash path))) (walkPath (requestFor s (askOf s h (fieldsOf how) (endsInSlash path))) (has O-DIRECTORY (flagsOf how) || endsInSlash path) path) ≡ resolve s h path how
+  unfolding resolve traceOf requestOf
+  asked e =
+      ap (λ R. answer R (walkPath (requestFor s (askOf s h (fieldsOf how) (endsInSlash path))) (has O-DIRECTORY (flagsOf how) || endsInSlash path) path)) (fun-ext same-restrictions)
+      ∙ rw e
+
+  pub refused-call : (r : Refusal) → refusedBefore s h path how ≡ some r → Refused r ≡ resolve s h path how
+  unfolding resolve
+  refused-call r e = rw e
+
+  -- the same from what the code has in hand
+  pub walked : (f : How) (slash : Bool) (k : Ask) (directory : Bool) → refusedBefore s h path how ≡ none → fieldsOf how ≡ f → slash ≡ endsInSlash path
+      → k ≡ askOf s h f slash → directory ≡ has O-DIRECTORY (f .flags) || slash
+      → answer (restrictionsFor k) (walkPath (requestFor s k) directory path) ≡ resolve s h path how
+  walked f slash k directory none-before fields slash-is k-is directory-is =
+      ap₂ (λ x d. answer (restrictionsFor x) (walkPath (requestFor s x) d path))
+      (k-is ∙ ap₂ (askOf s h) (sym fields) slash-is)
+      (directory-is ∙ ap₂ (λ (g : How) b. has O-DIRECTORY (g .flags) || b) (sym fields) slash-is)
+      ∙ asked none-before
+
+  -- and what the walk rests on
+  pub walking-of : (c : Counts) (f : How) (slash : Bool) (k : Ask) → Reading s c → refusedBefore s h path how ≡ none → k ≡ askOf s h f slash
+      → Walking s c k × Inside (treeOf s) (k .handle) × (length path ≤ 4095)
+  walking-of c f slash k reading none-before k-is =
+      let un = unrefused s h path how none-before in
+      let sound = accepted-sound s (reading .accepted) in
+      let handle = handle-inside (treeOf s) h (un .handle-passes) in
+      let root = cond-cases (Inside (treeOf s)) (has IN-ROOT (f .resolve)) (placeOf h) (rootOf (treeOf s) 0) (λ _. handle) (λ _. root-inside (treeOf s) sound 0 (sound .mounts-hold .some-mount)) in (
+        record { reading = reading; root-inside = subst (λ x. Inside (treeOf s) (x .root)) (sym k-is) root },
+        subst (λ x. Inside (treeOf s) (x .handle)) (sym k-is) handle,
+        path-short path (un .path-passes),
+      )
+
+  -- a refused table refuses every call
+  pub broken-call : (rule r : ℕ) → tableCheck s ≡ Broken rule r → refused Euclean notWalked ≡ resolve s h path how
+  unfolding resolve refusedBefore
+  broken-call rule r e = rw e

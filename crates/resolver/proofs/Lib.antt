@@ -1,0 +1,2 @@
+mod BeginLaws
+mod CallLaws
