@@ -1,0 +1,198 @@
+// The C interface: pointers with lengths and numbers in, the answer as numbers into a lent array. A lent array that is too short is
+// left as it was, and 0 is returned; else it is how many numbers were written.
+use model::Answer;
+use model::Errno;
+use model::Handle;
+use model::Verdict;
+use resolver::resolve;
+use resolver::resolve_accepted;
+use table::check;
+ghost use mathlib.Core.List.{[], _∷_, _++_};
+ghost use mathlib.Core.Path.{_≡_};
+ghost use Prim.Native.Nat.{ℕ, _≤_};
+ghost use lib.ListN.{length, drop};
+ghost use Rattle.model.specs.Answers.{errnoNumber, answerNumbers, verdictNumbers};
+ghost use Rattle.model.specs.TableCheck.{tableCheck};
+ghost use Rattle.model.specs.Resolve.{resolve};
+ghost use Rattle.model.specs.declared.Verdict.the-variants.{Accepted};
+ghost use Rattle.ventolaire.specs.Written.{handleOf, errnoNumbers, Writes};
+
+fn errno_number(e: Errno) -> u64
+    ensures { λ r. ⌜ r ≡ errnoNumber e ⌝ }
+{
+    match e {
+        Errno::Euclean => 117,
+        Errno::E2big => 7,
+        Errno::Einval => 22,
+        Errno::Enametoolong => 36,
+        Errno::Enoent => 2,
+        Errno::Ebadf => 9,
+        Errno::Enotdir => 20,
+        Errno::Eloop => 40,
+        Errno::Exdev => 18,
+    }
+}
+
+fn put2(out: &mut [u64], a: u64, b: u64)
+    requires { ⌜ 2 ≤ length (now out) ⌝ }
+    ensures { λ r. ⌜ now (out .exit) ≡ a ∷ b ∷ drop 2 (now (out .entry)) ⌝ }
+{
+    out[0] = a;
+    out[1] = b;
+}
+
+fn put6(out: &mut [u64], a: u64, b: u64, c: u64, d: u64, e: u64, f: u64)
+    requires { ⌜ 6 ≤ length (now out) ⌝ }
+    ensures { λ r. ⌜ now (out .exit) ≡ a ∷ b ∷ c ∷ d ∷ e ∷ f ∷ drop 6 (now (out .entry)) ⌝ }
+{
+    out[0] = a;
+    out[1] = b;
+    out[2] = c;
+    out[3] = d;
+    out[4] = e;
+    out[5] = f;
+}
+
+fn put_verdict(out: &mut [u64], v: Verdict)
+    requires { ⌜ 2 ≤ length (now out) ⌝ }
+    ensures { λ r. ⌜ now (out .exit) ≡ verdictNumbers v ++ drop 2 (now (out .entry)) ⌝ }
+{
+    match v {
+        Verdict::Accepted => put2(out, 0, 0),
+        Verdict::Broken { rule, record } => put2(out, rule as u64, record as u64),
+    }
+}
+
+fn put_answer(out: &mut [u64], a: Answer)
+    requires { ⌜ 6 ≤ length (now out) ⌝ }
+    ensures { λ r. ⌜ now (out .exit) ≡ answerNumbers a ++ drop 6 (now (out .entry)) ⌝ }
+{
+    match a {
+        Answer::Found(r) => {
+            let p = r.place;
+            let g = r.progress;
+            put6(
+                out,
+                0,
+                255,
+                p.mount as u64,
+                p.node as u64,
+                g.components as u64,
+                g.links as u64,
+            );
+        }
+        Answer::Refused(r) => {
+            let g = r.progress;
+            let e = r.errno;
+            put6(
+                out,
+                errno_number(e),
+                r.detail as u64,
+                0,
+                0,
+                g.components as u64,
+                g.links as u64,
+            );
+        }
+    }
+}
+
+// The table check: rule (0: accepted) and record.
+#[no_mangle]
+pub extern "C" fn ventolaire_check(image: &[u8], out: &mut [u64]) -> usize
+    ensures { λ r. ⌜ Writes (verdictNumbers (tableCheck (now (image .entry)))) (now (out .entry)) (now (out .exit)) r ⌝ }
+{
+    if out.len() < 2 {
+        return 0;
+    }
+    put_verdict(out, check(image));
+    2
+}
+
+// The resolver: error number (0: found), detail, mount, node, components, links.
+#[no_mangle]
+pub extern "C" fn ventolaire_resolve<'a>(
+    image: &'a [u8],
+    mount: u64,
+    node: u64,
+    mark: bool,
+    path: &'a [u8],
+    how: &[u8],
+    out: &mut [u64],
+) -> usize
+    ensures { λ r. ⌜ Writes (answerNumbers (resolve (now (image .entry)) (handleOf mount node mark) (now (path .entry)) (now (how .entry)))) (now (out .entry)) (now (out .exit)) r ⌝ }
+{
+    if out.len() < 6 {
+        return 0;
+    }
+    let h = Handle {
+        mount: mount as usize,
+        node: node as usize,
+        mark,
+    };
+    put_answer(out, resolve(image, h, path, how));
+    6
+}
+
+// The same answer with the table checked once and the call made a number of times: what a walk costs without the table check.
+fn resolve_again<'a>(image: &'a [u8], h: Handle, path: &'a [u8], how: &[u8], times: usize) -> Answer
+    requires { ⌜ tableCheck (now image) ≡ Accepted ⌝ }
+    ensures { λ r. ⌜ r ≡ resolve (now (image .entry)) h (now (path .entry)) (now (how .entry)) ⌝ }
+{
+    let mut made = 1;
+    while made < times {
+        resolve_accepted(image, h, path, how);
+        made += 1;
+    }
+    resolve_accepted(image, h, path, how)
+}
+
+#[no_mangle]
+pub extern "C" fn ventolaire_resolve_times<'a>(
+    image: &'a [u8],
+    mount: u64,
+    node: u64,
+    mark: bool,
+    path: &'a [u8],
+    how: &[u8],
+    times: usize,
+    out: &mut [u64],
+) -> usize
+    ensures { λ r. ⌜ Writes (answerNumbers (resolve (now (image .entry)) (handleOf mount node mark) (now (path .entry)) (now (how .entry)))) (now (out .entry)) (now (out .exit)) r ⌝ }
+{
+    if out.len() < 6 {
+        return 0;
+    }
+    let h = Handle {
+        mount: mount as usize,
+        node: node as usize,
+        mark,
+    };
+    let verdict = check(image);
+    if let Verdict::Accepted = verdict {
+        put_answer(out, resolve_again(image, h, path, how, times));
+        return 6;
+    }
+    put_answer(out, resolve(image, h, path, how));
+    6
+}
+
+// The numbers of the errnos, in the order in which they are declared.
+#[no_mangle]
+pub extern "C" fn ventolaire_errnos(out: &mut [u64]) -> usize
+    ensures { λ r. ⌜ Writes errnoNumbers (now (out .entry)) (now (out .exit)) r ⌝ }
+{
+    if out.len() < 9 {
+        return 0;
+    }
+    out[0] = errno_number(Errno::Euclean);
+    out[1] = errno_number(Errno::E2big);
+    out[2] = errno_number(Errno::Einval);
+    out[3] = errno_number(Errno::Enametoolong);
+    out[4] = errno_number(Errno::Enoent);
+    out[5] = errno_number(Errno::Ebadf);
+    out[6] = errno_number(Errno::Enotdir);
+    out[7] = errno_number(Errno::Eloop);
+    out[8] = errno_number(Errno::Exdev);
+    9
+}
