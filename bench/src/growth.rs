@@ -1,0 +1,191 @@
+//! How the cost of one call grows with its input, one measure of it at a time.
+
+use crate::measure::Measured;
+use crate::optional;
+use crate::tables::{accepted, found, Input, Tree};
+use std::error::Error;
+
+pub struct Growth {
+    pub name: &'static str,
+    pub about: &'static str,
+    pub sizes: &'static [usize],
+    build: fn(usize) -> Input,
+}
+
+pub const GROWTHS: &[Growth] = &[
+    Growth {
+        name: "walk-components",
+        about: "a walk of SIZE components, down a chain of directories",
+        sizes: &[1, 10, 100, 1_000, 2_000],
+        build: walk_components,
+    },
+    Growth {
+        name: "walk-entries",
+        about: "one component, the middle one of SIZE names in the directory",
+        sizes: &[1, 10, 100, 1_000, 4_000],
+        build: walk_entries,
+    },
+    Growth {
+        name: "walk-mounts",
+        about: "one component, into the last of SIZE mounts in mount 0",
+        sizes: &[1, 4, 16, 64, 255],
+        build: walk_mounts,
+    },
+    Growth {
+        name: "walk-links",
+        about: "a walk through SIZE links to \".\", then to a file",
+        sizes: &[0, 5, 10, 20, 40],
+        build: walk_links,
+    },
+    Growth {
+        name: "check-components",
+        about: "the check of a chain of SIZE directories",
+        sizes: &[1, 10, 100, 1_000, 2_000],
+        build: check_components,
+    },
+    Growth {
+        name: "check-entries",
+        about: "the check of one directory with SIZE names",
+        sizes: &[1, 10, 100, 1_000, 4_000],
+        build: check_entries,
+    },
+    Growth {
+        name: "check-mounts",
+        about: "the check of SIZE mounts in mount 0",
+        sizes: &[1, 4, 16, 64, 255],
+        build: check_mounts,
+    },
+    Growth {
+        name: "check-links",
+        about: "the check of SIZE symbolic links with bodies of 8 bytes",
+        sizes: &[1, 10, 100, 1_000, 2_000],
+        build: check_links,
+    },
+    Growth {
+        name: "check-magic-links",
+        about: "the check of SIZE magic links to directories of mount 0",
+        sizes: &[1, 10, 100, 1_000, 2_000],
+        build: check_magic_links,
+    },
+];
+
+/// The input of a case such as `walk-links:40`.
+pub fn input(case: &str) -> Option<Input> {
+    let (name, size) = case.split_once(':')?;
+    let growth = GROWTHS.iter().find(|growth| growth.name == name)?;
+    let size = size.parse().ok()?;
+    growth.sizes.contains(&size).then(|| (growth.build)(size))
+}
+
+/// All growths, as a table of instructions per call.
+pub fn print() -> Result<(), Box<dyn Error>> {
+    for (i, growth) in GROWTHS.iter().enumerate() {
+        if i > 0 {
+            println!();
+        }
+        println!("{}: {}", growth.name, growth.about);
+        println!("{:>8} {:>14} {:>14} {:>8}", "size", "plain instr", "proved instr", "ratio");
+        for &size in growth.sizes {
+            let case = format!("{}:{size}", growth.name);
+            let costs = Measured::new(&case, (growth.build)(size))?.costs()?;
+            let plain = costs[0].instructions;
+            let proved = costs.get(1).map(|cost| cost.instructions);
+            let ratio = proved.map(|proved| proved / plain);
+            println!(
+                "{size:>8} {plain:>14.0} {:>14} {:>8}",
+                optional(proved, 0),
+                optional(ratio, 3)
+            );
+        }
+    }
+    Ok(())
+}
+
+/// A tree with its top and mount 0.
+fn tree() -> (Tree, u16) {
+    let mut tree = Tree::default();
+    let top = tree.top();
+    tree.mount(top, 0, top);
+    (tree, top)
+}
+
+fn chain(size: usize) -> Tree {
+    let (mut tree, top) = tree();
+    let name = tree.text(b"d");
+    tree.chain(top, name, size, size);
+    tree
+}
+
+/// One directory of files. The files are few and shared: it is the names that
+/// grow.
+fn directory(size: usize) -> Tree {
+    let (mut tree, top) = tree();
+    let file = tree.file();
+    for i in 0..size {
+        tree.name(top, &format!("{i:04}"), file);
+    }
+    tree
+}
+
+fn mounts(size: usize) -> Tree {
+    let (mut tree, top) = tree();
+    for i in 0..size {
+        let point = tree.named_directory(top, &format!("{i:03}"));
+        let root = tree.top();
+        tree.mount(root, 0, point);
+    }
+    tree
+}
+
+fn walk_components(size: usize) -> Input {
+    let path = vec!["d"; size].join("/");
+    found(&chain(size), 0, &path, (0, size as u64), size as u64, 0)
+}
+
+fn walk_entries(size: usize) -> Input {
+    found(&directory(size), 0, &format!("{:04}", size / 2), (0, 1), 1, 0)
+}
+
+fn walk_mounts(size: usize) -> Input {
+    let last = size as u64;
+    found(&mounts(size), 0, &format!("{:03}", size - 1), (last, 2 * last), 1, 0)
+}
+
+fn walk_links(size: usize) -> Input {
+    let (mut tree, top) = tree();
+    tree.named_symlink(top, "l", ".");
+    let file = tree.named_file(top, "f");
+    let links = size as u64;
+    let path = "l/".repeat(size) + "f";
+    found(&tree, 0, &path, (0, file.into()), 2 * links + 1, links)
+}
+
+fn check_components(size: usize) -> Input {
+    accepted(chain(size))
+}
+
+fn check_entries(size: usize) -> Input {
+    accepted(directory(size))
+}
+
+fn check_mounts(size: usize) -> Input {
+    accepted(mounts(size))
+}
+
+fn check_links(size: usize) -> Input {
+    let (mut tree, _) = tree();
+    for i in 0..size {
+        let body = tree.text(format!("body{i:04}").as_bytes());
+        tree.symlink(body);
+    }
+    accepted(tree)
+}
+
+fn check_magic_links(size: usize) -> Input {
+    let (mut tree, top) = tree();
+    let directories: Vec<u16> = (0..100).map(|_| tree.directory(top)).collect();
+    for i in 0..size {
+        tree.magic_link(0, directories[i % directories.len()]);
+    }
+    accepted(tree)
+}

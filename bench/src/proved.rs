@@ -1,0 +1,93 @@
+//! The proved side: Ventolaire's own library, called as a C program would.
+
+use crate::plain::Handle;
+use crate::tables::Numbers;
+
+extern "C" {
+    fn ventolaire_check(image: *const u8, image_len: usize, out: *mut u64, out_len: usize)
+        -> usize;
+
+    fn ventolaire_resolve(
+        image: *const u8,
+        image_len: usize,
+        mount: u64,
+        node: u64,
+        mark: bool,
+        path: *const u8,
+        path_len: usize,
+        how: *const u8,
+        how_len: usize,
+        out: *mut u64,
+        out_len: usize,
+    ) -> usize;
+
+    fn ventolaire_resolve_times(
+        image: *const u8,
+        image_len: usize,
+        mount: u64,
+        node: u64,
+        mark: bool,
+        path: *const u8,
+        path_len: usize,
+        how: *const u8,
+        how_len: usize,
+        times: usize,
+        out: *mut u64,
+        out_len: usize,
+    ) -> usize;
+}
+
+/// What stands in an output before the call. It is part of no answer, so a call
+/// that writes nothing gives a wrong one.
+const UNWRITTEN: u64 = 0xA5A5_A5A5_A5A5_A5A5;
+
+pub fn check(image: &[u8]) -> Numbers {
+    let mut out = [UNWRITTEN; 2];
+    // SAFETY: each pointer goes with the length of a slice that outlives the
+    // call, and the library writes to `out` alone. So in the calls below.
+    unsafe { ventolaire_check(image.as_ptr(), image.len(), out.as_mut_ptr(), out.len()) };
+    let [rule, record] = out;
+    [rule, record, 0, 0, 0, 0]
+}
+
+pub fn resolve(image: &[u8], handle: Handle, path: &[u8], how: &[u8]) -> Numbers {
+    let mut out = [UNWRITTEN; 6];
+    unsafe {
+        ventolaire_resolve(
+            image.as_ptr(),
+            image.len(),
+            handle.mount,
+            handle.node,
+            handle.mark,
+            path.as_ptr(),
+            path.len(),
+            how.as_ptr(),
+            how.len(),
+            out.as_mut_ptr(),
+            out.len(),
+        )
+    };
+    out
+}
+
+/// Checks the table once, then resolves `times` times.
+pub fn resolve_times(image: &[u8], handle: Handle, path: &[u8], how: &[u8], times: u64) -> Numbers {
+    let mut out = [UNWRITTEN; 6];
+    unsafe {
+        ventolaire_resolve_times(
+            image.as_ptr(),
+            image.len(),
+            handle.mount,
+            handle.node,
+            handle.mark,
+            path.as_ptr(),
+            path.len(),
+            how.as_ptr(),
+            how.len(),
+            times as usize,
+            out.as_mut_ptr(),
+            out.len(),
+        )
+    };
+    out
+}

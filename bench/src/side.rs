@@ -1,0 +1,106 @@
+//! The two sides that are measured.
+
+use crate::plain::{self, Broken, Found, Refusal};
+#[cfg(feature = "proved")]
+use crate::proved;
+use crate::tables::{Call, Input, Numbers};
+use std::hint::black_box;
+
+#[derive(Clone, Copy)]
+pub enum Side {
+    Plain,
+    #[cfg(feature = "proved")]
+    Proved,
+}
+
+impl Side {
+    pub const ALL: &[Side] = &[
+        Side::Plain,
+        #[cfg(feature = "proved")]
+        Side::Proved,
+    ];
+
+    pub fn name(self) -> &'static str {
+        match self {
+            Side::Plain => "plain",
+            #[cfg(feature = "proved")]
+            Side::Proved => "proved",
+        }
+    }
+
+    /// Makes the input's call `calls` times, at least once; a number that hangs
+    /// on the answers. Before walks the table is checked, once.
+    pub fn run(self, input: &Input, calls: u64) -> u64 {
+        // The choice between sides and calls is made once, outside the loop.
+        let image = input.image.as_slice();
+        match (self, &input.call) {
+            (Side::Plain, Call::Check) => repeat(calls, || checked(plain::check(black_box(image)))),
+            (Side::Plain, Call::Resolve { handle, path, how }) => {
+                black_box(plain::check(black_box(image)).is_ok());
+                repeat(calls, || {
+                    resolved(plain::resolve_checked(
+                        black_box(image),
+                        black_box(*handle),
+                        black_box(path),
+                        black_box(how),
+                    ))
+                })
+            }
+            #[cfg(feature = "proved")]
+            (Side::Proved, Call::Check) => repeat(calls, || proved::check(black_box(image))),
+            #[cfg(feature = "proved")]
+            (Side::Proved, Call::Resolve { handle, path, how }) => {
+                // The library's own loop, which checks the table once.
+                sum(proved::resolve_times(image, *handle, path, how, calls))
+            }
+        }
+    }
+
+    /// The answers to an input, all of which have to be the expected one: a
+    /// walk's table also has to be accepted, and the resolver that checks it
+    /// each time has to answer as the one that does not.
+    pub fn answers(self, input: &Input) -> Vec<Numbers> {
+        let image = input.image.as_slice();
+        match (self, &input.call) {
+            (Side::Plain, Call::Check) => vec![checked(plain::check(image))],
+            (Side::Plain, &Call::Resolve { handle, ref path, ref how }) => vec![
+                resolved(plain::resolve(image, handle, path, how)),
+                resolved(plain::resolve_checked(image, handle, path, how)),
+            ],
+            #[cfg(feature = "proved")]
+            (Side::Proved, Call::Check) => vec![proved::check(image)],
+            #[cfg(feature = "proved")]
+            (Side::Proved, &Call::Resolve { handle, ref path, ref how }) => vec![
+                proved::resolve(image, handle, path, how),
+                proved::resolve_times(image, handle, path, how, 1),
+                proved::resolve_times(image, handle, path, how, 3),
+            ],
+        }
+    }
+}
+
+fn repeat(calls: u64, call: impl Fn() -> Numbers) -> u64 {
+    (0..calls.max(1)).fold(0, |total: u64, _| total.wrapping_add(sum(call())))
+}
+
+fn sum(answer: Numbers) -> u64 {
+    answer.iter().fold(0, |sum, &number| sum.wrapping_add(number))
+}
+
+/// The check's answer in numbers.
+pub fn checked(answer: Result<(), Broken>) -> Numbers {
+    let (rule, record) = answer.err().map_or((0, 0), |broken| (broken.rule, broken.record));
+    [rule.into(), record.into(), 0, 0, 0, 0]
+}
+
+/// The resolver's answer in numbers.
+pub fn resolved(answer: Result<Found, Refusal>) -> Numbers {
+    match answer {
+        Ok(Found { place, components, links }) => {
+            [0, 255, place.mount.into(), place.node.into(), components.into(), links.into()]
+        }
+        Err(Refusal { errno, detail, components, links }) => {
+            [errno as u64, detail.into(), 0, 0, components.into(), links.into()]
+        }
+    }
+}

@@ -1,0 +1,126 @@
+//! The bench tree: a small table, and calls on it whose answers were worked out
+//! by hand. For trying the library, and for its tests.
+//!
+//! ```text
+//! mount 0                          mount 1, on (0,7)
+//! 0 /                              8 /
+//! └── 1 lab                        └── 9 run
+//!     ├── 2 cal
+//!     │   ├── 3 tare
+//!     │   ├── 4 up -> ../..
+//!     │   ├── 5 abs -> /lab/cal/tare
+//!     │   ├── 6 loop -> loop
+//!     │   ├── 10 fd, a magic link to (0,3)
+//!     │   └── 11 t -> tare/
+//!     └── 7 pool
+//! ```
+
+use crate::{Errno, Flags, Found, Handle, OpenHow, Place, Refusal, Resolve};
+
+/// The table image.
+#[rustfmt::skip]
+pub const IMAGE: &[u8] = &[
+    b'T', b'O', b'C', b'1',
+    // Counts of nodes, mounts and entries, zero; lengths of the text and of all.
+    12, 0, 2, 0, 10, 0, 0, 0,
+    56, 0, 0, 0, 60, 1, 0, 0,
+    // Nodes: kind, parent, first, count.
+    1, 0, 0, 0, 0, 0, 0, 0, 1, 0, 0, 0,   // 0 top: directory, parent 0
+    1, 0, 0, 0, 1, 0, 0, 0, 2, 0, 0, 0,   // 1 "lab": directory, parent 0
+    1, 0, 1, 0, 3, 0, 0, 0, 6, 0, 0, 0,   // 2 "cal": directory, parent 1
+    2, 0, 0, 0, 0, 0, 0, 0, 0, 0, 0, 0,   // 3 "tare": file
+    3, 0, 0, 0, 10, 0, 0, 0, 5, 0, 0, 0,  // 4 "up": link to ../..
+    3, 0, 0, 0, 17, 0, 0, 0, 13, 0, 0, 0, // 5 "abs": link to /lab/cal/tare
+    3, 0, 0, 0, 33, 0, 0, 0, 4, 0, 0, 0,  // 6 "loop": link to loop
+    1, 0, 1, 0, 9, 0, 0, 0, 0, 0, 0, 0,   // 7 "pool": directory, parent 1
+    1, 0, 8, 0, 9, 0, 0, 0, 1, 0, 0, 0,   // 8 second top: directory, parent 8
+    2, 0, 0, 0, 0, 0, 0, 0, 0, 0, 0, 0,   // 9 "run": file
+    4, 0, 0, 0, 0, 0, 0, 0, 3, 0, 0, 0,   // 10 "fd": magic link to (0,3)
+    3, 0, 0, 0, 50, 0, 0, 0, 5, 0, 0, 0,  // 11 "t": link to tare/
+    // Mounts: root, parent mount, mount point, zero.
+    0, 0, 0, 0, 0, 0, 0, 0, // 0: root 0
+    8, 0, 0, 0, 7, 0, 0, 0, // 1: root 8, on (0,7)
+    // Entries: place and length of the name, node.
+    0, 0, 0, 0, 3, 0, 1, 0,   // 0: "lab" in 0
+    3, 0, 0, 0, 3, 0, 2, 0,   // 1: "cal" in 1
+    41, 0, 0, 0, 4, 0, 7, 0,  // 2: "pool" in 1
+    30, 0, 0, 0, 3, 0, 5, 0,  // 3: "abs" in 2
+    48, 0, 0, 0, 2, 0, 10, 0, // 4: "fd" in 2
+    37, 0, 0, 0, 4, 0, 6, 0,  // 5: "loop" in 2
+    55, 0, 0, 0, 1, 0, 11, 0, // 6: "t" in 2
+    6, 0, 0, 0, 4, 0, 3, 0,   // 7: "tare" in 2
+    15, 0, 0, 0, 2, 0, 4, 0,  // 8: "up" in 2
+    45, 0, 0, 0, 3, 0, 9, 0,  // 9: "run" in 8
+    // Text.
+    b'l', b'a', b'b', b'c', b'a', b'l',
+    b't', b'a', b'r', b'e', b'.', b'.', b'/', b'.', b'.',
+    b'u', b'p',
+    b'/', b'l', b'a', b'b', b'/', b'c', b'a', b'l', b'/', b't', b'a', b'r', b'e',
+    b'a', b'b', b's', b'l', b'o', b'o', b'p', b'l', b'o', b'o', b'p',
+    b'p', b'o', b'o', b'l', b'r', b'u', b'n', b'f', b'd',
+    b't', b'a', b'r', b'e', b'/', b't',
+];
+
+/// A call on the bench tree and its answer.
+#[derive(Clone, Copy, Debug)]
+pub struct Row {
+    /// As the project's scope names it, or "-".
+    pub name: &'static str,
+    pub handle: Handle,
+    pub path: &'static str,
+    pub how: OpenHow,
+    pub answer: Result<Found, Refusal>,
+}
+
+/// The calls, all from the handle `lab`.
+#[rustfmt::skip]
+pub const TABLE: &[Row] = &[
+    row("P1", "cal/tare", found(0, 3, 2, 0)),
+    row("P2", "pool/run", found(1, 9, 2, 0)),
+    row("P3", "pool/run", refused(Errno::EXDEV, 1, 0)).with(Resolve::NO_XDEV),
+    row("P4", "pool/../cal", found(0, 2, 3, 0)).with(Resolve::BENEATH),
+    row("P5", "..", found(0, 0, 1, 0)),
+    row("P6a", "..", refused(Errno::EXDEV, 1, 0)).with(Resolve::BENEATH),
+    row("P6b", "..", found(0, 1, 1, 0)).with(Resolve::IN_ROOT),
+    row("P6c", "..", refused(Errno::ENOENT, 1, 0)).marked(),
+    row("P7", "cal/abs", found(0, 3, 5, 1)),
+    row("P8", "cal/abs", refused(Errno::EXDEV, 2, 0)).with(Resolve::BENEATH),
+    row("P9", "cal/abs", refused(Errno::ENOENT, 3, 1)).with(Resolve::IN_ROOT),
+    row("P10", "cal/loop", refused(Errno::ELOOP, 42, 40)),
+    row("P11", "cal/up", refused(Errno::EXDEV, 4, 1)).with(Resolve::BENEATH),
+    row("P12", "cal/fd", found(0, 10, 2, 0)).with(Resolve::NO_MAGICLINKS).flagged(UNFOLLOWED),
+    row("-", "cal/fd", found(0, 3, 2, 1)).with(Resolve::NO_XDEV),
+    row("-", "cal/t", refused(Errno::ENOTDIR, 3, 1)),
+    row("-", "cal/tare/x", refused(Errno::ENOTDIR, 2, 0)),
+    row("-", "cal/abs", refused(Errno::ELOOP, 2, 0)).flagged(Flags::NOFOLLOW),
+    row("-", "/", found(0, 0, 0, 0)),
+];
+
+const UNFOLLOWED: Flags = Flags::from_bits(Flags::PATH.bits() | Flags::NOFOLLOW.bits());
+
+const fn row(name: &'static str, path: &'static str, answer: Result<Found, Refusal>) -> Row {
+    let how = OpenHow { flags: Flags::empty(), resolve: Resolve::empty() };
+    Row { name, handle: Handle::new(0, 1), path, how, answer }
+}
+
+impl Row {
+    const fn marked(self) -> Self {
+        Row { handle: self.handle.marked(), ..self }
+    }
+
+    const fn flagged(self, flags: Flags) -> Self {
+        Row { how: OpenHow { flags, ..self.how }, ..self }
+    }
+
+    const fn with(self, resolve: Resolve) -> Self {
+        Row { how: OpenHow { resolve, ..self.how }, ..self }
+    }
+}
+
+const fn found(mount: u64, node: u64, components: u64, links: u64) -> Result<Found, Refusal> {
+    Ok(Found { place: Place { mount, node }, components, links })
+}
+
+const fn refused(errno: Errno, components: u64, links: u64) -> Result<Found, Refusal> {
+    Err(Refusal { errno, detail: Refusal::NO_DETAIL, components, links })
+}

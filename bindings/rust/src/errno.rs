@@ -1,0 +1,94 @@
+use std::fmt;
+
+/// Why a path is refused, by Linux's names and numbers.
+///
+/// ```
+/// use ventolaire::Errno;
+///
+/// assert_eq!(Errno::EXDEV.number(), 18);
+/// assert_eq!(Errno::EXDEV.to_string(), "EXDEV (18)");
+/// assert_eq!(Errno::from_number(40), Errno::ELOOP);
+/// ```
+#[derive(Clone, Copy, Debug, PartialEq, Eq, Hash)]
+#[non_exhaustive]
+pub enum Errno {
+    /// The table check fails.
+    EUCLEAN,
+    /// The open_how is over 4,096 bytes, or something stands behind its 24th.
+    E2BIG,
+    /// The open_how is not valid, or the path has a zero byte.
+    EINVAL,
+    /// The path is over 4,095 bytes, or a name in it over 255.
+    ENAMETOOLONG,
+    /// The path is empty, a name is not there, or the handle's mark is broken.
+    ENOENT,
+    /// The handle is not a place that a handle can have.
+    EBADF,
+    /// Not a directory where one is needed.
+    ENOTDIR,
+    /// Over 40 links, or a link that is not to be followed.
+    ELOOP,
+    /// The path leaves the mount or the handle.
+    EXDEV,
+    /// A number that this crate has no name for.
+    Other(u64),
+}
+
+impl Errno {
+    /// All that have a name, in the library's order.
+    pub const ALL: [Errno; 9] = [
+        Errno::EUCLEAN,
+        Errno::E2BIG,
+        Errno::EINVAL,
+        Errno::ENAMETOOLONG,
+        Errno::ENOENT,
+        Errno::EBADF,
+        Errno::ENOTDIR,
+        Errno::ELOOP,
+        Errno::EXDEV,
+    ];
+
+    /// The errno of a number.
+    pub fn from_number(number: u64) -> Self {
+        let known = Errno::ALL.into_iter().find(|errno| errno.number() == number);
+        known.unwrap_or(Errno::Other(number))
+    }
+
+    /// Its number.
+    pub const fn number(self) -> u64 {
+        match self {
+            Errno::EUCLEAN => 117,
+            Errno::E2BIG => 7,
+            Errno::EINVAL => 22,
+            Errno::ENAMETOOLONG => 36,
+            Errno::ENOENT => 2,
+            Errno::EBADF => 9,
+            Errno::ENOTDIR => 20,
+            Errno::ELOOP => 40,
+            Errno::EXDEV => 18,
+            Errno::Other(number) => number,
+        }
+    }
+
+    /// Its name, such as `"EXDEV"`.
+    pub const fn name(self) -> &'static str {
+        match self {
+            Errno::EUCLEAN => "EUCLEAN",
+            Errno::E2BIG => "E2BIG",
+            Errno::EINVAL => "EINVAL",
+            Errno::ENAMETOOLONG => "ENAMETOOLONG",
+            Errno::ENOENT => "ENOENT",
+            Errno::EBADF => "EBADF",
+            Errno::ENOTDIR => "ENOTDIR",
+            Errno::ELOOP => "ELOOP",
+            Errno::EXDEV => "EXDEV",
+            Errno::Other(_) => "unknown errno",
+        }
+    }
+}
+
+impl fmt::Display for Errno {
+    fn fmt(&self, f: &mut fmt::Formatter) -> fmt::Result {
+        write!(f, "{} ({})", self.name(), self.number())
+    }
+}

@@ -1,0 +1,176 @@
+//! The library's C functions, and all of this crate that is unsafe.
+
+use crate::Handle;
+
+extern "C" {
+    fn ventolaire_check(image: *const u8, image_len: usize, out: *mut u64, out_len: usize)
+        -> usize;
+
+    fn ventolaire_resolve(
+        image: *const u8,
+        image_len: usize,
+        mount: u64,
+        node: u64,
+        mark: bool,
+        path: *const u8,
+        path_len: usize,
+        how: *const u8,
+        how_len: usize,
+        out: *mut u64,
+        out_len: usize,
+    ) -> usize;
+}
+
+/// What stands in an output before the call. Neither a rule nor an errno, so
+/// numbers that a library failed to write read as a refusal.
+const UNWRITTEN: u64 = u64::MAX;
+
+/// Rule and record.
+pub fn check(image: &[u8]) -> [u64; 2] {
+    let mut out = [UNWRITTEN; 2];
+    // SAFETY: the pointers and lengths are those of slices that live through
+    // the call. The library reads `image` and writes to `out` alone, and keeps
+    // neither.
+    unsafe { ventolaire_check(image.as_ptr(), image.len(), out.as_mut_ptr(), out.len()) };
+    out
+}
+
+/// Errno, detail, mount, node, components and links.
+pub fn resolve(image: &[u8], handle: Handle, path: &[u8], how: &[u8]) -> [u64; 6] {
+    let mut out = [UNWRITTEN; 6];
+    // SAFETY: as in `check`; `path` and `how` are read as `image` is.
+    unsafe {
+        ventolaire_resolve(
+            image.as_ptr(),
+            image.len(),
+            handle.mount,
+            handle.node,
+            handle.mark,
+            path.as_ptr(),
+            path.len(),
+            how.as_ptr(),
+            how.len(),
+            out.as_mut_ptr(),
+            out.len(),
+        )
+    };
+    out
+}
+
+#[cfg(test)]
+mod tests {
+    use super::*;
+    use crate::bench_tree::IMAGE;
+    use crate::Errno;
+    use std::ptr;
+
+    extern "C" {
+        fn ventolaire_resolve_times(
+            image: *const u8,
+            image_len: usize,
+            mount: u64,
+            node: u64,
+            mark: bool,
+            path: *const u8,
+            path_len: usize,
+            how: *const u8,
+            how_len: usize,
+            times: usize,
+            out: *mut u64,
+            out_len: usize,
+        ) -> usize;
+
+        fn ventolaire_errnos(out: *mut u64, out_len: usize) -> usize;
+    }
+
+    const ROOM: usize = 12;
+
+    /// Offers outputs of all lengths to a function: too short, it writes
+    /// nothing; else the answer and not a number more.
+    fn writes_all_or_nothing<const N: usize>(
+        answer: [u64; N],
+        call: impl Fn(*mut u64, usize) -> usize,
+    ) {
+        for out_len in 0..=ROOM {
+            let mut out = [UNWRITTEN; ROOM];
+            let written = call(out.as_mut_ptr(), out_len);
+            assert_eq!(written, if out_len < N { 0 } else { N });
+            assert_eq!(out[..written], answer[..written]);
+            assert!(out[written..].iter().all(|&number| number == UNWRITTEN));
+        }
+        assert_eq!(call(ptr::null_mut(), 0), 0);
+    }
+
+    // SAFETY of the calls below: as in `check` and `resolve`. No `out_len` is
+    // more than the room, and a null pointer goes with the length 0.
+
+    #[test]
+    fn outputs_are_written_whole_or_not_at_all() {
+        let (path, how) = (b"cal/abs", [0; 24]);
+        writes_all_or_nothing([0, 0], |out, out_len| unsafe {
+            ventolaire_check(IMAGE.as_ptr(), IMAGE.len(), out, out_len)
+        });
+        writes_all_or_nothing([0, 255, 0, 3, 5, 1], |out, out_len| unsafe {
+            ventolaire_resolve(
+                IMAGE.as_ptr(),
+                IMAGE.len(),
+                0,
+                1,
+                false,
+                path.as_ptr(),
+                path.len(),
+                how.as_ptr(),
+                how.len(),
+                out,
+                out_len,
+            )
+        });
+        for times in [0, 1, 2, 100] {
+            writes_all_or_nothing([0, 255, 0, 3, 5, 1], |out, out_len| unsafe {
+                ventolaire_resolve_times(
+                    IMAGE.as_ptr(),
+                    IMAGE.len(),
+                    0,
+                    1,
+                    false,
+                    path.as_ptr(),
+                    path.len(),
+                    how.as_ptr(),
+                    how.len(),
+                    times,
+                    out,
+                    out_len,
+                )
+            });
+        }
+        writes_all_or_nothing([117, 7, 22, 36, 2, 9, 20, 40, 18], |out, out_len| unsafe {
+            ventolaire_errnos(out, out_len)
+        });
+    }
+
+    #[test]
+    fn every_errno_of_the_library_has_its_name_here() {
+        let mut out = [UNWRITTEN; 9];
+        assert_eq!(unsafe { ventolaire_errnos(out.as_mut_ptr(), out.len()) }, 9);
+        assert_eq!(out.map(Errno::from_number), Errno::ALL);
+        assert_eq!(Errno::ALL.map(Errno::number), out);
+    }
+
+    #[test]
+    fn null_goes_with_no_bytes() {
+        let mut out = [UNWRITTEN; 6];
+        let null = ptr::null();
+        let written = unsafe { ventolaire_check(null, 0, out.as_mut_ptr(), 2) };
+        assert_eq!((written, &out[..2]), (2, &[1, 0][..]));
+
+        let how = [0; 24];
+        let mut resolve = |how_len: usize| unsafe {
+            let how = if how_len == 0 { null } else { how.as_ptr() };
+            let (image, len) = (IMAGE.as_ptr(), IMAGE.len());
+            ventolaire_resolve(image, len, 0, 1, false, null, 0, how, how_len, out.as_mut_ptr(), 6);
+            out
+        };
+        assert_eq!(resolve(24), [2, 255, 0, 0, 0, 0]);
+        assert_eq!(resolve(0), [22, 255, 0, 0, 0, 0]);
+    }
+}

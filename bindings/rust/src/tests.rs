@@ -1,0 +1,168 @@
+use crate::bench_tree::{IMAGE, TABLE};
+use crate::*;
+
+const LAB: Handle = Handle::new(0, 1);
+
+#[test]
+fn the_bench_tree_answers_as_its_table_says() {
+    assert_eq!(check(IMAGE), Ok(()));
+    for row in TABLE {
+        assert_eq!(resolve(IMAGE, row.handle, row.path, row.how), row.answer, "{row:?}");
+    }
+}
+
+#[test]
+fn the_smallest_image_is_accepted() {
+    let mut image = b"TOC1\x01\0\x01\0\0\0\0\0\0\0\0\0\x28\0\0\0\x01\0".to_vec();
+    image.resize(40, 0);
+    assert_eq!(check(&image), Ok(()));
+    let found = resolve(&image, Handle::new(0, 0), "/..", OpenHow::default());
+    assert_eq!(found.map(|found| found.place), Ok(Place { mount: 0, node: 0 }));
+}
+
+#[test]
+fn refused_tables_say_where() {
+    let broken = |at: usize, byte: u8| {
+        let mut image = IMAGE.to_vec();
+        image[at] = byte;
+        check(&image).unwrap_err()
+    };
+    let (nodes, mounts, entries) = (20, 20 + 12 * 12, 20 + 12 * 12 + 2 * 8);
+    let rows = [
+        (broken(0, 0), "rule 2 broken: no signature, or its zero field is not zero"),
+        (broken(4, 0), "rule 3 broken: the header's counts or lengths are wrong"),
+        (broken(nodes + 12 * 3, 9), "rule 4 broken by node 3"),
+        (broken(nodes + 12 * 8 + 8, 2), "rule 4 broken by node 12"),
+        (broken(entries + 8 * 5 + 6, 12), "rule 5 broken by entry 5"),
+        (broken(mounts + 8, 9), "rule 6 broken by mount 1"),
+        (broken(nodes + 12 * 10 + 4, 2), "rule 7 broken by node 10, a magic link"),
+    ];
+    for (broken, text) in rows {
+        assert_eq!(broken.to_string(), text);
+    }
+    assert_eq!(check(b""), Err(Broken { rule: 1, record: 0 }));
+    assert_eq!(
+        check(&[0; 65_537]).unwrap_err().to_string(),
+        "rule 1 broken: the image is not 20 to 65,536 bytes long"
+    );
+    let refusal = resolve(b"", LAB, "cal", OpenHow::default()).unwrap_err();
+    assert_eq!(refusal.to_string(), "EUCLEAN (117); 0 components, 0 links");
+}
+
+#[test]
+fn unknown_bits_are_named() {
+    let refusal = |how: OpenHow| resolve(IMAGE, LAB, "cal", how).unwrap_err();
+    for bit in 0..64 {
+        let flags = Flags::from_bits(1 << bit | 1 << 63);
+        if !Flags::NAMED.iter().any(|(_, named)| flags.contains(*named)) {
+            let refusal = refusal(flags.into());
+            assert_eq!(refusal.errno, Errno::EINVAL);
+            assert_eq!(refusal.unknown_bit(), Some(UnknownBit::Flags(bit)));
+        }
+    }
+    for bit in 5..64 {
+        let refusal = refusal(Resolve::from_bits(1 << bit | 1 << 63 | 1).into());
+        assert_eq!(refusal.unknown_bit(), Some(UnknownBit::Resolve(bit)));
+    }
+    let refusal = refusal(Resolve::from_bits(1 << 5).into());
+    let text = "EINVAL (22), unknown resolve bit 5; 0 components, 0 links";
+    assert_eq!(refusal.to_string(), text);
+}
+
+#[test]
+fn raw_open_hows_may_have_any_length() {
+    let errno = |how: &[u8]| resolve_raw(IMAGE, LAB, "cal", how).err().map(|r| r.errno);
+    let zeros = [0; 4_097];
+    for (len, expected) in [
+        (0, Some(Errno::EINVAL)),
+        (23, Some(Errno::EINVAL)),
+        (24, None),
+        (4_096, None),
+        (4_097, Some(Errno::E2BIG)),
+    ] {
+        assert_eq!(errno(&zeros[..len]), expected, "{len}");
+    }
+    let mut mode = [0; 24];
+    mode[8] = 1;
+    assert_eq!(errno(&mode), Some(Errno::EINVAL));
+    let both = Resolve::BENEATH | Resolve::IN_ROOT;
+    assert_eq!(resolve(IMAGE, LAB, "cal", both).unwrap_err().errno, Errno::EINVAL);
+}
+
+#[test]
+fn bad_handles_and_paths_are_refused() {
+    let errno = |handle: Handle, path: &[u8]| {
+        resolve(IMAGE, handle, path, OpenHow::default()).err().map(|refusal| refusal.errno)
+    };
+    for (handle, expected) in [
+        (Handle::new(1, 8), None),
+        (Handle::new(2, 0), Some(Errno::EBADF)),
+        (Handle::new(u64::MAX, u64::MAX), Some(Errno::EBADF)),
+        (Handle::new(1 << 32, 0), Some(Errno::EBADF)),
+        (Handle::new(0, 3), Some(Errno::ENOTDIR)),
+        (Handle::new(0, 7), Some(Errno::EBADF)),
+        (Handle::new(0, 8), Some(Errno::EBADF)),
+    ] {
+        assert_eq!(errno(handle, b"/"), expected, "{handle:?}");
+    }
+    for (path, expected) in [
+        (&b""[..], Some(Errno::ENOENT)),
+        (b"cal\0", Some(Errno::EINVAL)),
+        (b"\xff\xfe", Some(Errno::ENOENT)),
+        (&[b'/'; 4_095], None),
+        (&[b'/'; 4_096], Some(Errno::ENAMETOOLONG)),
+        (&[b'n'; 255], Some(Errno::ENOENT)),
+        (&[b'n'; 256], Some(Errno::ENAMETOOLONG)),
+    ] {
+        assert_eq!(errno(LAB, path), expected, "{}", path.escape_ascii());
+    }
+}
+
+#[test]
+fn names_and_sets_go_together() {
+    for &(name, flag) in Flags::NAMED {
+        assert_eq!(Flags::from_name(name), Some(flag));
+        assert_eq!(flag.to_string(), name);
+    }
+    assert_eq!(Resolve::from_name("BENEATH"), Some(Resolve::BENEATH));
+    assert_eq!(Resolve::from_name("RESOLVE_BENEATH"), Some(Resolve::BENEATH));
+    assert_eq!(Resolve::from_name("O_BELOW"), None);
+    assert_eq!(Flags::from_name(""), None);
+    assert_eq!(Flags::empty().to_string(), "0");
+    assert_eq!(Errno::from_number(1).to_string(), "unknown errno (1)");
+    assert_eq!(
+        OpenHow { flags: Flags::PATH | Flags::CLOEXEC, resolve: Resolve::from_bits(u64::MAX) }
+            .to_bytes(),
+        [0, 0, 0x28, 0, 0, 0, 0, 0, 0, 0, 0, 0, 0, 0, 0, 0, 255, 255, 255, 255, 255, 255, 255, 255]
+    );
+}
+
+/// Whatever the bytes are, there is an answer.
+#[test]
+fn any_input_is_answered() {
+    let mut state = 1_u32;
+    let mut random = |below: usize| {
+        state = state.wrapping_mul(1_664_525).wrapping_add(1_013_904_223);
+        (state >> 8) as usize % below
+    };
+    for _ in 0..20_000 {
+        let mut image = IMAGE.to_vec();
+        for _ in 0..random(4) {
+            image[random(IMAGE.len())] = random(256) as u8;
+        }
+        let mut path = TABLE[random(TABLE.len())].path.as_bytes().to_vec();
+        for _ in 0..random(3) {
+            path.push(random(256) as u8);
+        }
+        let how: Vec<u8> = (0..random(40)).map(|_| (random(2) * random(32)) as u8).collect();
+        let handle = Handle { mount: random(3) as u64, node: random(13) as u64, mark: false };
+        let accepted = check(&image).is_ok();
+        match resolve_raw(&image, handle, &path, &how) {
+            Ok(found) => assert!(accepted && found.components <= 83_968 && found.links <= 40),
+            Err(refusal) => {
+                assert_eq!(refusal.errno == Errno::EUCLEAN, !accepted);
+                assert!(!refusal.to_string().contains("unknown errno"));
+            }
+        }
+    }
+}

@@ -1,0 +1,136 @@
+/*
+ * Ventolaire: resolves a path below a handle, after Linux's openat2, in a file
+ * tree that is lent as one table image. For C99 and C++.
+ *
+ * Common to all functions:
+ *
+ * - A pair of a pointer and a length lends that many bytes. A null pointer is
+ *   allowed where its length is 0. What is lent is only read.
+ * - Answers are numbers written from out[0] on; out_len says how many numbers
+ *   `out` has room for. With too little room nothing is written and the return
+ *   value is 0. Otherwise the whole answer is written, the return value is how
+ *   many numbers that are, and what lies behind them is not touched. `out` must
+ *   not overlap what is lent.
+ * - Any bytes and any numbers may be passed: what is wrong with them is said by
+ *   the answer.
+ * - Nothing is allocated, and no state is kept between calls.
+ *
+ * The library needs no other library: cc program.c -L FOLDER -lventolaire
+ */
+#ifndef VENTOLAIRE_H
+#define VENTOLAIRE_H
+
+#include <stdbool.h>
+#include <stddef.h>
+#include <stdint.h>
+
+#ifdef __cplusplus
+extern "C" {
+#endif
+
+/*
+ * How to resolve: the bytes of an open_how, little-endian.
+ *
+ *   bytes  0 to  7   flags, VENTOLAIRE_O_...
+ *   bytes  8 to 15   mode and padding, all zero
+ *   bytes 16 to 23   resolve, VENTOLAIRE_RESOLVE_...
+ *
+ * More bytes may follow, up to 4,096 in all, if they are zero.
+ */
+#define VENTOLAIRE_HOW_SIZE 24
+
+/* Flags. Any other bit is refused and named. */
+#define VENTOLAIRE_O_DIRECTORY UINT64_C(0x10000) /* find directories only */
+#define VENTOLAIRE_O_NOFOLLOW UINT64_C(0x20000)  /* do not follow a last link */
+#define VENTOLAIRE_O_CLOEXEC UINT64_C(0x80000)   /* known, without effect */
+#define VENTOLAIRE_O_PATH UINT64_C(0x200000)     /* a link itself may be found */
+
+/* Resolve. Any other bit is refused and named. BENEATH and IN_ROOT exclude
+ * each other. */
+#define VENTOLAIRE_RESOLVE_NO_XDEV UINT64_C(0x01)       /* stay in the mount */
+#define VENTOLAIRE_RESOLVE_NO_MAGICLINKS UINT64_C(0x02) /* follow no magic link */
+#define VENTOLAIRE_RESOLVE_NO_SYMLINKS UINT64_C(0x04)   /* follow no link at all */
+#define VENTOLAIRE_RESOLVE_BENEATH UINT64_C(0x08)       /* never leave the handle */
+#define VENTOLAIRE_RESOLVE_IN_ROOT UINT64_C(0x10)       /* take the handle as "/" */
+
+/* Why a path is refused: Linux's numbers, whatever the host's are. */
+#define VENTOLAIRE_ENOENT 2        /* empty path, no such name, or mark broken */
+#define VENTOLAIRE_E2BIG 7         /* open_how too long, or something behind it */
+#define VENTOLAIRE_EBADF 9         /* not a place that a handle can have */
+#define VENTOLAIRE_EXDEV 18        /* leaves the mount or the handle */
+#define VENTOLAIRE_ENOTDIR 20      /* not a directory where one is needed */
+#define VENTOLAIRE_EINVAL 22       /* open_how not valid, or zero byte in the path */
+#define VENTOLAIRE_ENAMETOOLONG 36 /* path over 4,095 bytes, or name over 255 */
+#define VENTOLAIRE_ELOOP 40        /* over 40 links, or a link not to be followed */
+#define VENTOLAIRE_EUCLEAN 117     /* the table check fails */
+
+/*
+ * Checks a table image.
+ *
+ * The answer is { 0, 0 } for a table that is accepted. For one that is not, it
+ * is the lowest rule broken, 1 to 7, and the lowest record that breaks it (of
+ * the nodes for rules 4 and 7, of the entries for 5, of the mounts for 6; 0 for
+ * rules 1 to 3). Rule 4 at the record behind the last node says that the
+ * directories' counts do not sum to the count of entries.
+ */
+enum {
+    VENTOLAIRE_CHECK_RULE,
+    VENTOLAIRE_CHECK_RECORD,
+    VENTOLAIRE_CHECK_LEN /* how many numbers the answer has: 2 */
+};
+
+size_t ventolaire_check(const uint8_t *image, size_t image_len,
+                        uint64_t *out, size_t out_len);
+
+/*
+ * Resolves `path` from the directory `node` as seen in `mount`, the handle. A
+ * marked handle (mark) is never left, whatever `how` says.
+ *
+ * The image is checked first, at every call.
+ */
+enum {
+    VENTOLAIRE_ANSWER_ERRNO,      /* 0: found */
+    VENTOLAIRE_ANSWER_DETAIL,     /* an unknown bit, or VENTOLAIRE_NO_DETAIL */
+    VENTOLAIRE_ANSWER_MOUNT,      /* the place found, (mount, node); */
+    VENTOLAIRE_ANSWER_NODE,       /* 0 and 0 with a refusal */
+    VENTOLAIRE_ANSWER_COMPONENTS, /* components taken, at most 83,968 */
+    VENTOLAIRE_ANSWER_LINKS,      /* links followed, at most 40 */
+    VENTOLAIRE_ANSWER_LEN         /* how many numbers the answer has: 6 */
+};
+
+/* The detail of every answer but the refusal (EINVAL) of an unknown bit. That
+ * one names the lowest: b for bit b of flags, VENTOLAIRE_RESOLVE_DETAIL + b for
+ * bit b of resolve. */
+#define VENTOLAIRE_NO_DETAIL 255
+#define VENTOLAIRE_RESOLVE_DETAIL 64
+
+size_t ventolaire_resolve(const uint8_t *image, size_t image_len,
+                          uint64_t mount, uint64_t node, bool mark,
+                          const uint8_t *path, size_t path_len,
+                          const uint8_t *how, size_t how_len,
+                          uint64_t *out, size_t out_len);
+
+/*
+ * Answers as ventolaire_resolve does, but checks the image once and then
+ * resolves `times` times (0 counts as 1): for measuring what a path costs
+ * without the table check.
+ */
+size_t ventolaire_resolve_times(const uint8_t *image, size_t image_len,
+                                uint64_t mount, uint64_t node, bool mark,
+                                const uint8_t *path, size_t path_len,
+                                const uint8_t *how, size_t how_len,
+                                size_t times, uint64_t *out, size_t out_len);
+
+/*
+ * Writes the numbers of all refusals, in this order: EUCLEAN, E2BIG, EINVAL,
+ * ENAMETOOLONG, ENOENT, EBADF, ENOTDIR, ELOOP, EXDEV.
+ */
+#define VENTOLAIRE_ERRNOS_LEN 9
+
+size_t ventolaire_errnos(uint64_t *out, size_t out_len);
+
+#ifdef __cplusplus
+}
+#endif
+
+#endif
