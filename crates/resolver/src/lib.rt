@@ -40,6 +40,7 @@ ghost use Rattle.theorems.proofs.Inside.{Inside};
 ghost use Rattle.component.specs.Outcomes.{requestFor, restrictionsFor};
 ghost use Rattle.component.specs.Walking.{Reading, Walking};
 ghost use Rattle.resolver.specs.Asking.{rootFor, askOf};
+ghost use Rattle.resolver.specs.Comparing.{Compared};
 
 // A walk from a place: a path of slashes alone has no component.
 fn begin<'a>(
@@ -206,4 +207,26 @@ pub fn resolve<'a>(image: &'a [u8], h: Handle, path: &'a [u8], how: &[u8]) -> An
             },
         ),
     }
+}
+
+// The answers of two calls.
+pub struct Pair {
+    pub first: Answer,
+    pub second: Answer,
+}
+
+// Two calls over one table and path: what the second adds to the first's restrictions can only stop its walk.
+pub fn resolve_pair<'a>(
+    image: &'a [u8],
+    path: &'a [u8],
+    h: Handle,
+    how: &[u8],
+    then: Handle,
+    restricted: &[u8],
+) -> Pair
+    ensures { λ r. ⌜ Compared (now (image .entry)) (now (path .entry)) h (now (how .entry)) then (now (restricted .entry)) (r .first) (r .second) ⌝ }
+{
+    let first = resolve(image, h, path, how);
+    let second = resolve(image, then, path, restricted);
+    Pair { first, second }
 }
