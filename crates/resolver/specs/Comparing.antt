@@ -1,9 +1,10 @@
 -- Demand 3 about the answers of two calls that a resolver made.
-use Prim.Native.Nat.{ℕ}
+use Prim.Native.Nat.{ℕ, _≤_}
 use mathlib.Core.Bool.{true, false}
 use mathlib.Core.List.{List}
 use mathlib.Core.Option.{none}
 use mathlib.Core.Path.{_≡_}
+use lib.ListN.{length}
 use Rattle.model.specs.Bytes.{has}
 use Rattle.model.specs.Handles.{handleRefused}
 use Rattle.model.specs.OpenHow.{resolveOf, IN-ROOT}
@@ -24,5 +25,5 @@ pub record Compared (image path : List ℕ) (h : Handle) (how : List ℕ) (h′ 
       → tableCheck image ≡ Accepted
       → handleRefused (treeOf image) h ≡ none
       → Adds added h how h′ how′
-      → (added beneath ≡ true → has IN-ROOT (resolveOf how) ≡ false)
+      → (24 ≤ length how → added beneath ≡ true → has IN-ROOT (resolveOf how) ≡ false)
       → OnlyStops added image path h how h′ how′

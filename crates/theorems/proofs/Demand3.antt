@@ -146,10 +146,10 @@ handle-kept t h h′ e =
     rw (ap (λ p. p .mount) e, ap (λ p. p .node) e)
 
 module _ (added : Restrictions) (image path : List ℕ) (h : Handle) (how : List ℕ) (h′ : Handle) (how′ : List ℕ)
-    (adds : Adds added h how h′ how′) (scope : added beneath ≡ true → has IN-ROOT (resolveOf how) ≡ false) where
+    (adds : Adds added h how h′ how′) (scope : 24 ≤ length how → added beneath ≡ true → has IN-ROOT (resolveOf how) ≡ false) where
   how-same-by : (b : Bool) → ltb (length how) 24 ≡ b → howRefused how′ ≡ howRefused how
   how-same-by true e = ap howRefused (adds .short (ltb-true _ _ e))
-  how-same-by false e = how-kept added h how h′ how′ adds scope (ltb-false _ _ e)
+  how-same-by false e = how-kept added h how h′ how′ adds (scope (ltb-false _ _ e)) (ltb-false _ _ e)
 
   before-kept : refusedBefore image h′ path how′ ≡ refusedBefore image h path how
   unfolding refusedBefore
@@ -157,7 +157,7 @@ module _ (added : Restrictions) (image path : List ℕ) (h : Handle) (how : List
 
   trace-kept : 24 ≤ length how → traceOf image h′ path how′ ≡ traceOf image h path how
   unfolding traceOf requestOf
-  trace-kept l = rw (flags-kept added h how h′ how′ adds scope l, in-root-kept added h how h′ how′ adds scope l, adds .samePlace)
+  trace-kept l = rw (flags-kept added h how h′ how′ adds (scope l) l, in-root-kept added h how h′ how′ adds (scope l) l, adds .samePlace)
 
   only-stops : (o : Option Refusal) → refusedBefore image h path how ≡ o → OnlyStops added image path h how h′ how′
   unfolding resolve eventsOf firstForbidden
@@ -167,7 +167,7 @@ module _ (added : Restrictions) (image path : List ℕ) (h : Handle) (how : List
   }
   only-stops none e =
       let l = how-long how (unrefused image h path how e .how-passes) in
-      let all = all-set added h how h′ how′ adds scope l in
+      let all = all-set added h how h′ how′ adds (scope l) l in
       let t = traceOf image h path how in
       record {
         same = λ f. rw (before-kept, e, trace-kept l) (trace.same (restrictions h how) added (restrictions h′ how′) all t (rw e at f));
@@ -187,7 +187,7 @@ pub never-elsewhere : (added : Restrictions) (image path : List ℕ) (h : Handle
     → tableCheck image ≡ Accepted
     → handleRefused (treeOf image) h ≡ none
     → Adds added h how h′ how′
-    → (added beneath ≡ true → has IN-ROOT (resolveOf how) ≡ false)
+    → (24 ≤ length how → added beneath ≡ true → has IN-ROOT (resolveOf how) ≡ false)
     → (r : Reached) → resolve image h′ path how′ ≡ Found r → resolve image h path how ≡ Found r
 never-elsewhere added image path h how h′ how′ accepted good adds scope r found =
     go (firstForbidden added (eventsOf image h path how)) refl

@@ -93,5 +93,5 @@ Demand3 =
     → tableCheck image ≡ Accepted
     → handleRefused (treeOf image) h ≡ none
     → Adds added h how h′ how′
-    → (added beneath ≡ true → has IN-ROOT (resolveOf how) ≡ false)
+    → (24 ≤ length how → added beneath ≡ true → has IN-ROOT (resolveOf how) ≡ false)
     → OnlyStops added image path h how h′ how′
