@@ -1,14 +1,14 @@
 -- Where a walk begins. Assumes nothing.
-use Prim.Native.Nat.{ℕ, zero, suc, _+_, _-_, _*_, _≤_, _<_}
+use Prim.Native.Nat.{ℕ, _≤_, _<_}
 use mathlib.Core.Bool.{Bool}
-use mathlib.Core.List.{List, [], _++_, append-nil}
-use mathlib.Core.Path.{_≡_, refl, sym, ap, ap₂, _∙_, subst}
+use mathlib.Core.List.{List, [], append-nil}
+use mathlib.Core.Path.{_≡_, refl, sym, ap, _∙_, subst}
 use native.Mathlib.Omega.{arith}
 use lib.Dec.{lit≤}
-use lib.ListN.{length, getD}
-use Rattle.model.specs.Tree.{Tree, treeOf}
+use lib.ListN.{length}
+use Rattle.model.specs.Tree.{treeOf}
 use Rattle.model.specs.Answers.{notWalked}
-use Rattle.model.specs.Path.{Component, givenPath, components}
+use Rattle.model.specs.Path.{givenPath, components}
 use Rattle.model.specs.Trace.{answer}
 use Rattle.model.specs.Walk.{finish, walk, beginAt}
 use Rattle.model.specs.declared.Place.{Place}
@@ -16,13 +16,13 @@ use Rattle.model.specs.declared.State.{State}
 use Rattle.theorems.proofs.Bounds.{components-few}
 use Rattle.theorems.proofs.Inside.{Inside}
 use Rattle.text.specs.Positions.{Stands, slashes, left}
-use Rattle.text.specs.Texts.{textOf, Readable}
+use Rattle.text.specs.Texts.{textOf}
 use Rattle.text.proofs.Components.{left-start, left-end, start-stands}
 use Rattle.text.proofs.Texts.{text-path, path-readable}
 use Rattle.component.specs.Outcomes.{requestFor, restrictionsFor}
 use Rattle.component.specs.declared.Ask.{Ask}
 use Rattle.walk.proofs.WalkLaws.{walk-end}
-use Rattle.walk.specs.Open.{leftIn, suspended, pending, rest, budget, Resting, Standing}
+use Rattle.walk.specs.Open.{leftIn, suspended, pending, rest, budget, Standing}
 use Rattle.walk.specs.declared.Walk.{Walk}
 
 abbrev pub atStart : Place → Bool → State

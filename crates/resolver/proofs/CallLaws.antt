@@ -24,13 +24,12 @@ use Rattle.theorems.proofs.Refusals.{unrefused, path-short, handle-inside}
 use Rattle.image.specs.declared.records.Counts.{Counts}
 use Rattle.component.specs.Walking.{Reading, Walking}
 use Rattle.component.specs.declared.Ask.{Ask}
-use Rattle.model.specs.Resolve.{refusedBefore, restrictions, requestOf, traceOf, unlessRefused, resolve}
+use Rattle.model.specs.Resolve.{refusedBefore, restrictions, requestOf, traceOf, resolve}
 use Rattle.model.specs.declared.Handle.{Handle}
 use Rattle.model.specs.declared.Refusal.{Refusal}
 use Rattle.model.specs.declared.Answer.the-variants.{Refused}
 use Rattle.call.specs.Checks.{fieldsOf, walksUnless}
 use Rattle.call.specs.declared.how.How.{How}
-use Rattle.call.specs.declared.CallRead.{CallRead}
 use Rattle.call.specs.declared.CallRead.the-variants.{Walks, Refused as CallRefused}
 use Rattle.component.specs.Outcomes.{requestFor, restrictionsFor}
 use Rattle.resolver.specs.Asking.{askOf}

@@ -1,3 +1,4 @@
 -- Texts by their number, and positions in a text.
 pub mod Texts
 pub mod Positions
+pub mod Spans

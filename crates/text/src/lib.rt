@@ -1,5 +1,7 @@
 // Texts, that is the given path and the bodies of symbolic links: which bytes one has, and where in it the next component starts
 // and ends.
+pub mod reader;
+
 use image::records::Counts;
 use image::texts::body;
 ghost use mathlib.Core.Path.{_≡_};
@@ -9,15 +11,14 @@ ghost use Rattle.model.specs.Tree.{treeOf};
 ghost use Rattle.model.specs.Path.{absolute, endsInSlash};
 ghost use Rattle.image.specs.Counts.{Counted};
 ghost use Rattle.text.specs.Positions.{componentEnd, pastSlashes};
-ghost use Rattle.text.specs.Texts.{textOf, Readable};
+ghost use Rattle.text.specs.Texts.{textOf, between, Readable};
 
 // The text number of the given path. Any other is the node of a link.
 pub const GIVEN_PATH: usize = 65535;
 
 // Where the component at a position ends: at the next slash, or where the text ends.
 pub fn component_end(s: &[u8], at: usize) -> usize
-    requires { ⌜ at ≤ length (now s) ⌝ }
-    ensures { λ r. ⌜ (r ≡ componentEnd (now (s .entry)) at) × (r ≤ length (now (s .entry))) ⌝ }
+    ensures { λ r. ⌜ r ≡ componentEnd (now (s .entry)) at ⌝ }
 {
     let mut end = at;
     while end < s.len() {
@@ -31,8 +32,7 @@ pub fn component_end(s: &[u8], at: usize) -> usize
 
 // Past the slashes at a position: where the next component starts, or where the text ends.
 pub fn skip_slashes(s: &[u8], at: usize) -> usize
-    requires { ⌜ at ≤ length (now s) ⌝ }
-    ensures { λ r. ⌜ (r ≡ pastSlashes (now (s .entry)) at) × (r ≤ length (now (s .entry))) ⌝ }
+    ensures { λ r. ⌜ r ≡ pastSlashes (now (s .entry)) at ⌝ }
 {
     let mut next = at;
     while next < s.len() {
@@ -71,4 +71,20 @@ pub fn text_of<'a>(image: &'a [u8], c: Counts, path: &'a [u8], text: usize) -> &
         return path;
     }
     body(image, c, text)
+}
+
+// The bytes of a text between two positions: a component's name, as a part of the path or of the image.
+pub fn name_of<'a>(
+    image: &'a [u8],
+    c: Counts,
+    path: &'a [u8],
+    text: usize,
+    at: usize,
+    end: usize,
+) -> &'a [u8]
+    requires { ⌜ Counted (now image) c × Readable (treeOf (now image)) text × (at ≤ end) × (end ≤ length (textOf (treeOf (now image)) (now path) text)) ⌝ }
+    ensures { λ r. ⌜ now r ≡ between (textOf (treeOf (now (image .entry))) (now (path .entry)) text) at end ⌝ }
+{
+    let here = text_of(image, c, path, text);
+    &here[at..end]
 }

@@ -1,13 +1,13 @@
 -- A link that was followed: what is pending behind it, and in front of that the components of its body. Assumes nothing.
-use Prim.Native.Nat.{ℕ, zero, suc, _+_, _-_, _*_, _≤_, _<_}
+use Prim.Native.Nat.{ℕ, _+_, _-_, _≤_, _<_}
 use mathlib.Core.Bool.{Bool, _&&_}
-use mathlib.Core.List.{List, [], _∷_, _++_}
+use mathlib.Core.List.{List, [], _++_}
 use mathlib.Core.Path.{_≡_, refl, sym, ap, ap₂, _∙_, subst}
 use mathlib.Core.Logic.{⊎-elim}
-use native.Mathlib.Nat.{le-refl, eq-or-lt-of-le}
+use native.Mathlib.Nat.{eq-or-lt-of-le}
 use native.Mathlib.Omega.{arith}
 use lib.ListN.{length, getD, length-append}
-use Rattle.model.specs.Tree.{Tree, treeOf}
+use Rattle.model.specs.Tree.{treeOf}
 use Rattle.model.specs.Path.{Component, givenPath, components, endsInSlash}
 use Rattle.model.specs.Trace.{answer}
 use Rattle.model.specs.Walk.{standingOn, followedTo, isEmpty, walk}
@@ -18,15 +18,15 @@ use Rattle.theorems.proofs.Acceptance.{accepted-sound, body-small}
 use Rattle.theorems.proofs.Bounds.{components-few}
 use Rattle.theorems.proofs.Inside.{Inside}
 use Rattle.text.specs.Positions.{Stands, slashes, left}
-use Rattle.text.specs.Texts.{textOf, Readable}
-use Rattle.text.proofs.Components.{left-start, left-end, left-count, start-stands}
+use Rattle.text.specs.Texts.{textOf}
+use Rattle.text.proofs.Components.{left-start, left-end, start-stands}
 use Rattle.text.proofs.Texts.{text-body, link-readable}
 use Rattle.component.specs.Outcomes.{requestFor, restrictionsFor}
 use Rattle.component.specs.Walking.{Walking}
 use Rattle.component.specs.declared.Ask.{Ask}
 use Rattle.component.specs.declared.Outcome.the-variants.{Go, Target, Read}
 use Rattle.image.specs.declared.records.Counts.{Counts}
-use Rattle.walk.specs.Open.{leftIn, suspended, pending, linksLeft, rest, budget, Placed, Suspended, Resting, Standing, Leads, OutcomeInside, afterOutcome, proceed, Entered}
+use Rattle.walk.specs.Open.{leftIn, suspended, pending, linksLeft, rest, budget, Suspended, Resting, Leads, OutcomeInside, afterOutcome, proceed, Entered}
 use Rattle.walk.specs.declared.Walk.{Walk}
 use Rattle.walk.specs.declared.Next.the-variants.{More}
 

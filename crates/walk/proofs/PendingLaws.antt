@@ -1,15 +1,15 @@
 -- The open texts as the code keeps them: what is pending, and what a step of the code makes of it. Assumes nothing.
-use Prim.Native.Nat.{ℕ, zero, suc, _+_, _-_, _*_, _/_, _%_, _≤_, _<_}
-use mathlib.Core.Bool.{Bool, true, false, _&&_}
+use Prim.Native.Nat.{ℕ, zero, suc, _+_, _*_, _/_, _%_, _≤_, _<_}
+use mathlib.Core.Bool.{false, _&&_}
 use mathlib.Core.List.{List, [], _∷_, _++_}
 use mathlib.Core.Logic.{⊎-elim}
 use mathlib.Core.Path.{_≡_, refl, sym, ap, ap₂, _∙_, subst}
-use native.Mathlib.Nat.{le-refl, le-of-eq, le-of-suc-le-suc, eq-or-lt-of-le, add-sub-cancel-left}
+use native.Mathlib.Nat.{le-refl, eq-or-lt-of-le}
 use native.Mathlib.Numerals.{add-one}
 use native.Mathlib.Omega.{arith}
-use borrow.Author.Tests.{eq-eqb, ne-eqb}
+use borrow.Author.Tests.{ne-eqb}
 use lib.Dec.{eqb}
-use lib.ListN.{length, getD, set, length-append, length-set}
+use lib.ListN.{length, getD, set, length-set}
 use lib.Seq.{getD-set-same, getD-set-other}
 use Rattle.model.specs.Tree.{Tree, treeOf}
 use Rattle.model.specs.Path.{Component}
@@ -17,15 +17,15 @@ use Rattle.model.specs.Trace.{answer}
 use Rattle.model.specs.Walk.{finish, isEmpty, walk}
 use Rattle.model.specs.declared.Answer.{Answer}
 use Rattle.model.specs.declared.State.{State}
-use Rattle.text.specs.Positions.{Stands, left}
-use Rattle.text.specs.Texts.{textOf, Readable}
+use Rattle.text.specs.Positions.{left}
+use Rattle.text.specs.Texts.{textOf}
 use Rattle.text.proofs.Components.{left-empty, left-end}
 use Rattle.component.specs.Outcomes.{requestFor, restrictionsFor}
 use Rattle.component.specs.declared.Ask.{Ask}
-use Rattle.walk.specs.Open.{leftIn, suspended, pending, linksLeft, rest, budget, Placed, Suspended, Resting, Standing, Leads, Entered}
+use Rattle.walk.specs.Open.{leftIn, suspended, pending, linksLeft, rest, budget, Placed, Suspended, Resting, Leads, Entered}
 use Rattle.walk.specs.declared.Walk.{Walk}
 use Rattle.walk.specs.declared.Next.{Next}
-use Rattle.walk.specs.declared.Next.the-variants.{More, End}
+use Rattle.walk.specs.declared.Next.the-variants.{More, Done, Failed}
 use Rattle.walk.proofs.WalkLaws.{walk-end}
 
 pub is-empty-append : (xs ys : List Component) → isEmpty (xs ++ ys) ≡ (isEmpty xs && isEmpty ys)
@@ -100,7 +100,8 @@ module _ (s path stack : List ℕ) (k : Ask) (w : Walk) (r : Resting s path stac
 -- a step that leads to one answer leads to its equals, within more
 pub leads-same : (s : List ℕ) (k : Ask) (path stack : List ℕ) (a b : Answer) (m n : ℕ) (x : Next) → a ≡ b → m ≤ n → Leads s k path stack a m x → Leads s k path stack b n x
 leads-same s k path stack a b m n (More w) e h l = (l .0, l .1 ∙ e, omega (arith, l .2))
-leads-same s k path stack a b m n (End c) e h l = l ∙ e
+leads-same s k path stack a b m n (Done w) e h l = (l .0, l .1 ∙ e)
+leads-same s k path stack a b m n (Failed w c) e h l = l ∙ e
 
 -- the present text is suspended, and another one is read
 module _ (s path stack : List ℕ) (w : Walk) (r : Resting s path stack w) (room : w .depth < 40) (state : State) (n start : ℕ) where

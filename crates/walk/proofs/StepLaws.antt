@@ -1,35 +1,39 @@
 -- One component: from a walk that stands at one to the walk behind it. Assumes nothing.
-use Prim.Native.Nat.{ℕ, zero, suc, _+_, _-_, _*_, _≤_, _<_}
-use mathlib.Core.Bool.{Bool, true, false, cond, _&&_}
-use mathlib.Core.List.{List, [], _∷_, _++_}
+use Prim.Native.Nat.{ℕ, suc, _-_, _≤_, _<_}
+use mathlib.Core.Bool.{Bool, true, false, _&&_}
+use mathlib.Core.List.{List, _∷_, _++_}
 use mathlib.Core.Option.{Option, some, none}
-use mathlib.Core.Path.{_≡_, refl, sym, ap, ap₂, _∙_, subst}
+use mathlib.Core.Path.{_≡_, sym, ap, ap₂, _∙_, subst, subst₂}
 use native.Mathlib.Omega.{arith}
 use borrow.Author.Tests.{ltb-true}
 use lib.Dec.{eqb, ltb}
-use lib.ListN.{length, getD}
+use lib.ListN.{length}
 use Rattle.model.specs.Tree.{Tree, treeOf, isDirectory}
-use Rattle.model.specs.Path.{Component}
-use Rattle.model.specs.Trace.{Event, Restrictions}
-use Rattle.model.specs.Walk.{Request, Landing, outside, target, reading, Step, fail, go, follow, taken, isEmpty, oneComponent, walk}
-use Rattle.model.specs.declared.Answer.{Answer}
+use Rattle.model.specs.Answers.{refused}
+use Rattle.model.specs.Trace.{Restrictions, answer}
+use Rattle.model.specs.Walk.{Landing, outside, target, reading, Step, fail, go, follow, taken, isEmpty, oneComponent, walk}
 use Rattle.model.specs.declared.Errno.{Errno}
-use Rattle.theorems.proofs.Inside.{Inside, LandingInside, StepInside, one-component-inside}
+use Rattle.model.specs.declared.Errno.the-variants.{Enotdir}
+use Rattle.model.specs.declared.State.{State}
+use Rattle.theorems.proofs.Inside.{LandingInside, StepInside, one-component-inside}
 use Rattle.theorems.proofs.Acceptance.{accepted-sound}
 use Rattle.theorems.proofs.Cases.{cond-cases}
-use Rattle.text.specs.Positions.{Stands, left, nextStart, componentAt, componentBytes}
-use Rattle.text.specs.Texts.{textOf}
+use Rattle.text.specs.Positions.{nextStart, componentAt, componentBytes}
+use Rattle.text.specs.Spans.{spanAt}
+use Rattle.text.specs.Texts.{textOf, between}
+use Rattle.text.specs.declared.reader.Span.{Span}
 use Rattle.text.proofs.Components.{left-here, next-stands}
 use Rattle.component.specs.Outcomes.{requestFor, restrictionsFor, forbidAny, stopOr, landingOutcome, outcome}
 use Rattle.component.specs.Walking.{Walking}
 use Rattle.component.specs.declared.Ask.{Ask}
 use Rattle.component.specs.declared.Outcome.{Outcome}
-use Rattle.component.specs.declared.Outcome.the-variants.{Stop, Go, Target, Read}
+use Rattle.component.specs.declared.Outcome.the-variants.{Go}
 use Rattle.image.specs.declared.records.Counts.{Counts}
-use Rattle.walk.specs.Open.{leftIn, suspended, pending, linksLeft, rest, budget, Placed, Resting, Standing, OutcomeInside, proceed}
+use Rattle.walk.specs.Open.{suspended, pending, linksLeft, rest, budget, Resting, Standing, Leads, OutcomeInside, proceed, Stepped}
 use Rattle.walk.specs.declared.Walk.{Walk}
+use Rattle.walk.specs.declared.Next.{Next}
 use Rattle.walk.proofs.WalkLaws.{walk-off, walk-on}
-use Rattle.walk.proofs.PendingLaws.{pending-empty}
+use Rattle.walk.proofs.PendingLaws.{pending-empty, leads-same}
 
 -- where a step leads is in the tree, whatever the restrictions
 stop-inside : (t : Tree) (links : ℕ) (o : Option Errno) (x : Outcome) → OutcomeInside t links x → OutcomeInside t links (stopOr o x)
@@ -84,10 +88,10 @@ module _ (s : List ℕ) (k : Ask) (c : Counts) (walking : Walking s c k) (path s
   few-taken = omega (arith, here .resting .room, some-budget)
 
   -- the directory that is stood on
-  pub off-directory : isDirectory (treeOf s) (w .state .place .node) ≡ false → rest s k path stack w ≡ Rattle.model.specs.Answers.refused Rattle.model.specs.declared.Errno.the-variants.Enotdir (w .state .progress)
+  pub off-directory : isDirectory (treeOf s) (w .state .place .node) ≡ false → rest s k path stack w ≡ refused Enotdir (w .state .progress)
   unfolding rest
   off-directory d =
-      ap (λ cs. Rattle.model.specs.Trace.answer (restrictionsFor k) (walk (requestFor s k) (linksLeft (w .state)) cs (w .state))) one-pending
+      ap (λ cs. answer (restrictionsFor k) (walk (requestFor s k) (linksLeft (w .state)) cs (w .state))) one-pending
       ∙ walk-off (restrictionsFor k) (requestFor s k) (linksLeft (w .state)) _ _ (w .state) d
 
   pub on-directory : isDirectory (treeOf s) (w .state .place .node) ≡ true
@@ -96,7 +100,7 @@ module _ (s : List ℕ) (k : Ask) (c : Counts) (walking : Walking s c k) (path s
   unfolding rest
   on-directory d =
       let back : 40 - linksLeft (w .state) ≡ w .state .progress .links = omega (arith, here .resting .few-links) in
-      ap (λ cs. Rattle.model.specs.Trace.answer (restrictionsFor k) (walk (requestFor s k) (linksLeft (w .state)) cs (w .state))) one-pending
+      ap (λ cs. answer (restrictionsFor k) (walk (requestFor s k) (linksLeft (w .state)) cs (w .state))) one-pending
       ∙ walk-on (restrictionsFor k) (requestFor s k) (linksLeft (w .state)) (omega arith) _ _ (w .state) d
       ∙ ap (λ (n : ℕ). proceed s k path stack (behind (nextStart (textOf (treeOf s) path (w .text)) (w .at))) (outcome (restrictionsFor k) n (oneComponent (requestFor s k) (isEmpty (pending (treeOf s) path stack (behind (nextStart (textOf (treeOf s) path (w .text)) (w .at))))) (w .state .place) (componentBytes (textOf (treeOf s) path (w .text)) (w .at))))) back
 
@@ -106,3 +110,55 @@ module _ (s : List ℕ) (k : Ask) (c : Counts) (walking : Walking s c k) (path s
   leads-inside d last bytes =
       outcome-inside (treeOf s) (restrictionsFor k) (w .state .progress .links) (oneComponent (requestFor s k) last (w .state .place) bytes)
       (one-component-inside (requestFor s k) (accepted-sound s (walking .reading .accepted)) (walking .root-inside) last (w .state .place) (here .resting .inside) d bytes)
+
+  -- what the step's calls gave: the text, the component in it, whether it is the last, where it leads, and the state with it taken
+  module _ (d : isDirectory (treeOf s) (w .state .place .node) ≡ true)
+      (x : List ℕ) (text-is : x ≡ textOf (treeOf s) path (w .text))
+      (span : Span) (span-is : span ≡ spanAt x (w .at))
+      (last : Bool) (last-is : last ≡ eqb (span .next) (length x) && eqb (w .depth) 0)
+      (name : List ℕ) (name-is : name ≡ between (textOf (treeOf s) path (w .text)) (w .at) (span .end))
+      (o : Outcome) (o-is : o ≡ outcome (restrictionsFor k) (w .state .progress .links) (oneComponent (requestFor s k) last (w .state .place) name))
+      (state : State) (state-is : state ≡ taken (w .state))
+    where
+      read : span ≡ spanAt (textOf (treeOf s) path (w .text)) (w .at)
+      read = span-is ∙ ap (λ y. spanAt y (w .at)) text-is
+
+      -- the walk behind the component, as the code has it
+      abbrev pub went : Walk
+      went = record { state = state; text = w .text; at = span .next; depth = w .depth }
+
+      abbrev next : ℕ
+      next = nextStart (textOf (treeOf s) path (w .text)) (w .at)
+
+      went-is : went ≡ behind next
+      went-is = ap₂ (λ (st : State) (n : ℕ). record { state = st; text = w .text; at = n; depth = w .depth }) state-is (ap (λ (sp : Span). sp .next) read)
+
+      ends : last ≡ isEmpty (pending (treeOf s) path stack (behind next))
+      ends =
+          last-is ∙ ap₂ (λ (m n : ℕ). eqb m n && eqb (w .depth) 0) (ap (λ (sp : Span). sp .next) read) (ap length text-is)
+          ∙ sym (pending-empty s path stack (behind next) behind-resting)
+
+      named : name ≡ componentBytes (textOf (treeOf s) path (w .text)) (w .at)
+      named = name-is ∙ ap (between (textOf (treeOf s) path (w .text)) (w .at)) (ap (λ (sp : Span). sp .end) read)
+
+      leads-to : o ≡ outcome (restrictionsFor k) (w .state .progress .links) (oneComponent (requestFor s k) (isEmpty (pending (treeOf s) path stack (behind next))) (w .state .place) (componentBytes (textOf (treeOf s) path (w .text)) (w .at)))
+      leads-to = o-is ∙ ap₂ (λ l y. outcome (restrictionsFor k) (w .state .progress .links) (oneComponent (requestFor s k) l (w .state .place) y)) ends named
+
+      -- so the walk can go on from behind it
+      pub goes-on : Walking s c k × Resting s path stack went × OutcomeInside (treeOf s) (went .state .progress .links) o × (last ≡ isEmpty (pending (treeOf s) path stack went))
+      goes-on = (
+        walking,
+        subst (Resting s path stack) (sym went-is) behind-resting,
+        subst₂ (λ v y. OutcomeInside (treeOf s) (v .state .progress .links) y) (sym went-is) (sym leads-to) (leads-inside d (isEmpty (pending (treeOf s) path stack (behind next))) (componentBytes (textOf (treeOf s) path (w .text)) (w .at))),
+        ends ∙ ap (λ v. isEmpty (pending (treeOf s) path stack v)) (sym went-is),
+      )
+
+      -- and where it goes from there is where the definitions go
+      pub stepped : (after : List ℕ) (r : Next) → Leads s k path after (proceed s k path stack went o) (budget s path stack went) r → Stepped s k path stack w after r
+      stepped after r l =
+          let same : proceed s k path stack went o ≡ rest s k path stack w = ap₂ (λ y z. proceed s k path stack y z) went-is leads-to ∙ sym (on-directory d) in
+          let fewer : budget s path stack went ≤ budget s path stack w - 1 = omega (arith, some-budget, ap (budget s path stack) went-is) in
+          record {
+            leads = leads-same s k path after (proceed s k path stack went o) (rest s k path stack w) (budget s path stack went) (budget s path stack w - 1) r same fewer l;
+            some-budget = omega (arith, some-budget);
+          }

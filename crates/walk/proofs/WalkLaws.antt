@@ -1,27 +1,25 @@
 -- The answer of a walk, one component at a time. Assumes nothing.
-use Prim.Native.Nat.{ℕ, zero, suc, _+_, _-_, _≤_, _<_}
-use mathlib.Core.Bool.{Bool, true, false, cond, _&&_}
-use mathlib.Core.List.{List, [], _∷_, _++_}
+use Prim.Native.Nat.{ℕ, zero, suc, _-_, _≤_, _<_}
+use mathlib.Core.Bool.{true, false}
+use mathlib.Core.List.{List, [], _∷_}
 use mathlib.Core.Option.{Option, some, none}
 use mathlib.Core.Path.{_≡_, refl, sym, ap, _∙_}
 use native.Mathlib.Omega.{arith}
-use borrow.Author.Tests.{lt-ltb, le-ltb}
-use lib.Dec.{ltb}
+use borrow.Author.Tests.{lt-ltb}
 use Rattle.model.specs.Answers.{refused}
 use Rattle.model.specs.Bytes.{orElse}
-use Rattle.model.specs.Path.{Component, components, endsInSlash}
+use Rattle.model.specs.Path.{Component}
 use Rattle.model.specs.Tree.{isDirectory}
-use Rattle.model.specs.Trace.{Event, Restrictions, Trace, stop, meet, stand, meets, forbids, refusedBy, answer}
-use Rattle.model.specs.Walk.{Request, Landing, outside, target, reading, Step, fail, go, follow, taken, standingOn, followedTo, finish, isEmpty, Follow, land, followOn, followNone, continue, oneComponent, walkPending, walk}
-use Rattle.model.specs.declared.Place.{Place}
+use Rattle.model.specs.Trace.{Event, Restrictions, Trace, stand, meets, forbids, refusedBy, answer}
+use Rattle.model.specs.Walk.{Request, Landing, outside, target, reading, Step, fail, go, follow, taken, standingOn, finish, isEmpty, land, followOn, followNone, continue, oneComponent, walkPending, walk}
 use Rattle.model.specs.declared.Progress.{Progress}
 use Rattle.model.specs.declared.State.{State}
 use Rattle.model.specs.declared.Errno.{Errno}
-use Rattle.model.specs.declared.Errno.the-variants.{Enotdir, Eloop, Exdev}
+use Rattle.model.specs.declared.Errno.the-variants.{Enotdir}
 use Rattle.model.specs.declared.Answer.{Answer}
 use Rattle.component.specs.Outcomes.{forbidAny, stopOr, landingOutcome, outcome}
 use Rattle.component.specs.declared.Outcome.{Outcome}
-use Rattle.component.specs.declared.Outcome.the-variants.{Stop, Go, Target, Read}
+use Rattle.component.specs.declared.Outcome.the-variants.{Go}
 use Rattle.walk.specs.Open.{afterOutcome}
 
 -- events met with one progress: the first forbidden one refuses

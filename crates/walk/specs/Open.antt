@@ -8,7 +8,7 @@ use Rattle.model.specs.Tree.{Tree, treeOf}
 use Rattle.model.specs.Path.{Component, components, endsInSlash}
 use Rattle.model.specs.Answers.{refused}
 use Rattle.model.specs.Trace.{Restrictions, answer}
-use Rattle.model.specs.Walk.{Request, standingOn, followedTo, isEmpty, walk}
+use Rattle.model.specs.Walk.{Request, standingOn, followedTo, finish, isEmpty, walk}
 use Rattle.model.specs.declared.Answer.{Answer}
 use Rattle.model.specs.declared.State.{State}
 use Rattle.theorems.proofs.Inside.{Inside}
@@ -20,7 +20,7 @@ use Rattle.component.specs.declared.Outcome.{Outcome}
 use Rattle.component.specs.declared.Outcome.the-variants.{Stop, Go, Target, Read}
 use Rattle.walk.specs.declared.Walk.{Walk}
 use Rattle.walk.specs.declared.Next.{Next}
-use Rattle.walk.specs.declared.Next.the-variants.{More, End}
+use Rattle.walk.specs.declared.Next.the-variants.{More, Done, Failed}
 
 -- the components of a text from a position on
 abbrev pub leftIn : Tree → List ℕ → ℕ → ℕ → List Component
@@ -77,7 +77,12 @@ pub record Standing (s path stack : List ℕ) (w : Walk) : Type 0 where
 -- a step leads to what the definitions answer, within a number of components
 abbrev pub Leads : List ℕ → Ask → List ℕ → List ℕ → Answer → ℕ → Next → Type 0
 Leads s k path stack a most (More w) = Standing s path stack w × (rest s k path stack w ≡ a) × (budget s path stack w ≤ most)
-Leads s k path stack a most (End b) = b ≡ a
+Leads s k path stack a most (Done w) = Inside (treeOf s) (w .state .place) × (finish (requestFor s k) (w .state) ≡ a)
+Leads s k path stack a most (Failed w e) = refused e (w .state .progress) ≡ a
+
+-- the same answer whatever is asked, and no more components to take
+abbrev pub Advanced : List ℕ → List ℕ → List ℕ → Walk → Next → Type 0
+Advanced s path stack w r = (k : Ask) → Leads s k path stack (rest s k path stack w) (budget s path stack w) r
 
 -- where an outcome leads is in the tree, and a followed link is not the 41st
 abbrev pub OutcomeInside : Tree → ℕ → Outcome → Type 0

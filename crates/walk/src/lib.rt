@@ -12,8 +12,9 @@ use model::Progress;
 use model::Reached;
 use model::Refusal;
 use model::State;
-use text::component_end;
 use text::ends_in_slash;
+use text::name_of;
+use text::reader::next_component;
 use text::skip_slashes;
 use text::text_of;
 ghost use mathlib.Core.Bool.{_&&_, _||_};
@@ -28,7 +29,7 @@ ghost use Rattle.theorems.proofs.Inside.{Inside};
 ghost use Rattle.component.specs.Outcomes.{requestFor};
 ghost use Rattle.component.specs.Walking.{Walking};
 ghost use Rattle.image.specs.Counts.{Counted};
-ghost use Rattle.walk.specs.Open.{pending, rest, budget, Resting, Standing, Leads, OutcomeInside, proceed, Entered, Stepped};
+ghost use Rattle.walk.specs.Open.{pending, rest, budget, Resting, Standing, Leads, Advanced, OutcomeInside, proceed, Entered, Stepped};
 
 // A walk between two components: its state, the text that it reads and where in it, and how many texts are suspended behind that.
 pub struct Walk {
@@ -38,10 +39,12 @@ pub struct Walk {
     pub depth: usize,
 }
 
-// The next state, or the end with its answer.
+// The next state, or the end: every component taken, or an error at the state that the walk was left in. Each case holds a whole
+// state, so that the compiler keeps it in registers from one component to the next.
 pub enum Next {
     More(Walk),
-    End(Answer),
+    Done(Walk),
+    Failed(Walk, Errno),
 }
 
 pub fn refuse(errno: Errno, progress: Progress) -> Answer
@@ -79,9 +82,9 @@ pub fn finish(image: &[u8], c: Counts, k: Ask, s: State) -> Answer
 
 // After a component: on in the same text, back in the one suspended last, or at the end. A suspended text has a component left, so
 // one step back is enough.
-fn advance<'a>(image: &'a [u8], c: Counts, k: Ask, path: &'a [u8], stack: &[u32], w: Walk) -> Next
-    requires { ⌜ Walking (now image) c k × Resting (now image) (now path) (now stack) w ⌝ }
-    ensures { λ r. ⌜ Leads (now (image .entry)) k (now (path .entry)) (now (stack .entry)) (rest (now (image .entry)) k (now (path .entry)) (now (stack .entry)) w) (budget (now (image .entry)) (now (path .entry)) (now (stack .entry)) w) r ⌝ }
+fn advance<'a>(image: &'a [u8], c: Counts, path: &'a [u8], stack: &[u32], w: Walk) -> Next
+    requires { ⌜ Counted (now image) c × Resting (now image) (now path) (now stack) w ⌝ }
+    ensures { λ r. ⌜ Advanced (now (image .entry)) (now (path .entry)) (now (stack .entry)) w r ⌝ }
 {
     let depth = w.depth;
     let here = text_of(image, c, path, w.text);
@@ -89,7 +92,7 @@ fn advance<'a>(image: &'a [u8], c: Counts, k: Ask, path: &'a [u8], stack: &[u32]
         return Next::More(w);
     }
     if depth == 0 {
-        return Next::End(finish(image, c, k, w.state));
+        return Next::Done(w);
     }
     let state = w.state;
     let v = stack[depth - 1] as usize;
@@ -223,7 +226,7 @@ fn open<'a>(
             at,
             depth: w.depth,
         };
-        return advance(image, c, k, path, stack, behind);
+        return advance(image, c, path, stack, behind);
     }
     Next::More(enter_body(image, c, path, stack, w, state, n, start))
 }
@@ -244,7 +247,7 @@ fn proceed<'a>(
 {
     let state = w.state;
     match o {
-        Outcome::Stop(errno) => Next::End(refuse(errno, state.progress)),
+        Outcome::Stop(errno) => Next::Failed(w, errno),
         Outcome::Go(p) => {
             let on = Walk {
                 state: standing_on(p, state),
@@ -252,7 +255,7 @@ fn proceed<'a>(
                 at: w.at,
                 depth: w.depth,
             };
-            advance(image, c, k, path, stack, on)
+            advance(image, c, path, stack, on)
         }
         Outcome::Target(p) => {
             let on = Walk {
@@ -261,7 +264,7 @@ fn proceed<'a>(
                 at: w.at,
                 depth: w.depth,
             };
-            advance(image, c, k, path, stack, on)
+            advance(image, c, path, stack, on)
         }
         Outcome::Read(n, p) => open(image, c, k, path, stack, w, last, n, p),
     }
@@ -294,15 +297,16 @@ impl Walk {
         let place = state.place;
         let progress = state.progress;
         if node_kind(image, place.node) != 1 {
-            return Next::End(refuse(Errno::Enotdir, progress));
+            return Next::Failed(self, Errno::Enotdir);
         }
         let at = self.at;
         let depth = self.depth;
         let here = text_of(image, c, path, self.text);
-        let end = component_end(here, at);
-        let next = skip_slashes(here, end);
+        let span = next_component(here, at);
+        let next = span.next;
         let last = is_last(next, here.len(), depth);
-        let o = take_component(image, c, k, last, progress.links, place, &here[at..end]);
+        let name = name_of(image, c, path, self.text, at, span.end);
+        let o = take_component(image, c, k, last, progress.links, place, name);
         let behind = Walk {
             state: taken(state),
             text: self.text,
@@ -332,8 +336,12 @@ pub fn run<'a>(
             Next::More(on) => {
                 at = on;
             }
-            Next::End(answer) => {
-                return answer;
+            Next::Done(end) => {
+                return finish(image, c, k, end.state);
+            }
+            Next::Failed(end, errno) => {
+                let state = end.state;
+                return refuse(errno, state.progress);
             }
         }
     }

@@ -1,17 +1,15 @@
+-- `resolver::resolve_pair` meets its contract. Assumes nothing.
 use borrow.Author.Needs.{needs}
 use Rattle.theorems.proofs.Demand3.{demand-3}
 use Rattle.resolver.proofs.resolve_pair.Statement.{statement}
 use Rattle.resolver.proofs.resolve_pair.Tie as tie
 
--- src/lib.rt:229:9
 resolve-requires : tie.Need-resolve-requires
 resolve-requires c κs = search needs
 
--- src/lib.rt:230:9
 resolve-requires-2 : tie.Need-resolve-requires-2
 resolve-requires-2 c κs = search needs
 
--- src/lib.rt:219:1
 returns : tie.Need-returns
 returns c = record {
   firstAnswer = c .before .resolve .ensures;

@@ -1,6 +1,6 @@
 -- `text::component_end` meets its contract. The loop's invariant: the component at `at` ends where the bytes from `end` on have
 -- their first slash. Assumes nothing.
-use Prim.Native.Nat.{_≤_, _-_}
+use Prim.Native.Nat.{_-_}
 use mathlib.Core.Path.{_≡_, refl, _∙_, sym}
 use native.Mathlib.Omega.{arith}
 use lib.ListN.{length}
@@ -11,19 +11,19 @@ use Rattle.text.proofs.component_end.Statement.{statement}
 use Rattle.text.proofs.component_end.Tie as tie
 
 abbrev Inv-loop : tie.InvT-loop
-Inv-loop s at end₀ end = (end ≤ length s) × (componentEnd s at ≡ componentEnd s end)
+Inv-loop s at end₀ end = componentEnd s at ≡ componentEnd s end
 
 abbrev μ-loop : tie.MeasureT-loop
 μ-loop s at end₀ end = length s - end
 
 loop-holds : tie.Need-loop-holds Inv-loop μ-loop
-loop-holds c = (omega arith, refl)
+loop-holds c = refl
 
 shared-slice-read-if1 : tie.Need-shared-slice-read-if1 Inv-loop μ-loop
 shared-slice-read-if1 c = omega arith
 
 returns : tie.Need-returns Inv-loop μ-loop
-returns c = (sym (c .before .before .before .loop .inv .1 ∙ end-here (now (c .before .before .before .before .args .s)) (c .before .before .before .loop .end) (c .before .before .loop-test .taken) (c .if1 .taken)), omega arith)
+returns c = sym (c .before .before .before .loop .inv ∙ end-here (now (c .before .before .before .before .args .s)) (c .before .before .before .loop .end) (c .before .before .loop-test .taken) (c .if1 .taken))
 
 add-end : tie.Need-add-end Inv-loop μ-loop
 add-end c = omega arith
@@ -32,10 +32,10 @@ loop-less : tie.Need-loop-less Inv-loop μ-loop
 loop-less c = omega arith
 
 loop-again : tie.Need-loop-again Inv-loop μ-loop
-loop-again c = (omega arith, c .before .before .before .loop .inv .1 ∙ end-on (now (c .before .before .before .before .args .s)) (c .before .before .before .loop .end) (c .before .before .loop-test .taken) (c .if1 .left))
+loop-again c = c .before .before .before .loop .inv ∙ end-on (now (c .before .before .before .before .args .s)) (c .before .before .before .loop .end) (c .before .before .loop-test .taken) (c .if1 .left)
 
 returns-2 : tie.Need-returns-2 Inv-loop μ-loop
-returns-2 c = (sym (c .before .loop .inv .1 ∙ end-done (now (c .before .before .args .s)) (c .before .loop .end) (c .loop-test .left)), omega arith)
+returns-2 c = sym (c .before .loop .inv ∙ end-done (now (c .before .before .args .s)) (c .before .loop .end) (c .loop-test .left))
 
 pub component-end-spec : {M : Type 1} → statement M
 component-end-spec =

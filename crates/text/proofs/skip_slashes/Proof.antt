@@ -1,5 +1,5 @@
 -- `text::skip_slashes` meets its contract. The loop's invariant: past the slashes at `at` is past those at `next`. Assumes nothing.
-use Prim.Native.Nat.{_≤_, _-_}
+use Prim.Native.Nat.{_-_}
 use mathlib.Core.Path.{_≡_, refl, _∙_, sym}
 use native.Mathlib.Omega.{arith}
 use lib.ListN.{length}
@@ -10,19 +10,19 @@ use Rattle.text.proofs.skip_slashes.Statement.{statement}
 use Rattle.text.proofs.skip_slashes.Tie as tie
 
 abbrev Inv-loop : tie.InvT-loop
-Inv-loop s at next₀ next = (next ≤ length s) × (pastSlashes s at ≡ pastSlashes s next)
+Inv-loop s at next₀ next = pastSlashes s at ≡ pastSlashes s next
 
 abbrev μ-loop : tie.MeasureT-loop
 μ-loop s at next₀ next = length s - next
 
 loop-holds : tie.Need-loop-holds Inv-loop μ-loop
-loop-holds c = (omega arith, refl)
+loop-holds c = refl
 
 shared-slice-read-if1 : tie.Need-shared-slice-read-if1 Inv-loop μ-loop
 shared-slice-read-if1 c = omega arith
 
 returns : tie.Need-returns Inv-loop μ-loop
-returns c = (sym (c .before .before .before .loop .inv .1 ∙ past-here (now (c .before .before .before .before .args .s)) (c .before .before .before .loop .next) (c .before .before .loop-test .taken) (c .if1 .taken)), omega arith)
+returns c = sym (c .before .before .before .loop .inv ∙ past-here (now (c .before .before .before .before .args .s)) (c .before .before .before .loop .next) (c .before .before .loop-test .taken) (c .if1 .taken))
 
 add-next : tie.Need-add-next Inv-loop μ-loop
 add-next c = omega arith
@@ -31,10 +31,10 @@ loop-less : tie.Need-loop-less Inv-loop μ-loop
 loop-less c = omega arith
 
 loop-again : tie.Need-loop-again Inv-loop μ-loop
-loop-again c = (omega arith, c .before .before .before .loop .inv .1 ∙ past-on (now (c .before .before .before .before .args .s)) (c .before .before .before .loop .next) (c .before .before .loop-test .taken) (c .if1 .left))
+loop-again c = c .before .before .before .loop .inv ∙ past-on (now (c .before .before .before .before .args .s)) (c .before .before .before .loop .next) (c .before .before .loop-test .taken) (c .if1 .left)
 
 returns-2 : tie.Need-returns-2 Inv-loop μ-loop
-returns-2 c = (sym (c .before .loop .inv .1 ∙ past-done (now (c .before .before .args .s)) (c .before .loop .next) (c .loop-test .left)), omega arith)
+returns-2 c = sym (c .before .loop .inv ∙ past-done (now (c .before .before .args .s)) (c .before .loop .next) (c .loop-test .left))
 
 pub skip-slashes-spec : {M : Type 1} → statement M
 skip-slashes-spec =

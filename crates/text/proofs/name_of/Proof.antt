@@ -1,0 +1,26 @@
+-- `text::name_of` meets its contract. Assumes nothing.
+use borrow.Author.Needs.{needs}
+use mathlib.Core.Path.{ap}
+use native.Mathlib.Omega.{arith}
+use lib.ListN.{length}
+use Rattle.text.specs.Texts.{between}
+use Rattle.text.proofs.name_of.Statement.{statement}
+use Rattle.text.proofs.name_of.Tie as tie
+
+text-of-requires : tie.Need-text-of-requires
+text-of-requires c κs = (c .before .before .pre .0, c .before .before .pre .1)
+
+sub-result : tie.Need-sub-result
+sub-result c = search needs
+
+part-result-start : tie.Need-part-result-start
+part-result-start c = search needs
+
+part-result-end : tie.Need-part-result-end
+part-result-end c = omega (arith, ap length (c .text-of .ensures), c .before .before .before .pre .3)
+
+returns : tie.Need-returns
+returns c = ap (λ s. between s (c .before .before .before .before .args .at) (c .before .before .before .before .args .end)) (c .before .text-of .ensures)
+
+pub name-of-spec : {M : Type 1} → statement M
+name-of-spec = tie.close (tie.spec text-of-requires sub-result part-result-start part-result-end returns)
