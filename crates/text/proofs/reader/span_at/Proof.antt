@@ -1,0 +1,24 @@
+-- `text::reader::span_at` meets its contract. Assumes nothing.
+use borrow.Author.Needs.{needs}
+use Prim.Native.Nat.{ℕ}
+use mathlib.Core.Path.{ap, ap₂, _∙_}
+use denote.Ref.{now}
+use Rattle.text.specs.Positions.{pastSlashes}
+use Rattle.text.specs.declared.reader.Span.{Span}
+use Rattle.text.proofs.reader.span_at.Statement.{statement}
+use Rattle.text.proofs.reader.span_at.Tie as tie
+
+component-end-requires : tie.Need-component-end-requires
+component-end-requires c κs = search needs
+
+skip-slashes-requires : tie.Need-skip-slashes-requires
+skip-slashes-requires c κs = search needs
+
+returns : tie.Need-returns
+returns c =
+    let e = c .before .component-end .ensures in
+    let span : ℕ → ℕ → Span = λ m n. record { end = m; next = n } in
+    ap₂ span e (c .skip-slashes .ensures ∙ ap (pastSlashes (now (c .before .before .before .args .s))) e)
+
+pub span-at-spec : {M : Type 1} → statement M
+span-at-spec = tie.close (tie.spec component-end-requires skip-slashes-requires returns)
