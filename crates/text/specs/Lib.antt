@@ -1,4 +1,3 @@
 -- Texts by their number, and positions in a text.
 pub mod Texts
 pub mod Positions
-pub mod Spans

@@ -1,7 +1,5 @@
 // Texts, that is the given path and the bodies of symbolic links: which bytes one has, and where in it the next component starts
 // and ends.
-pub mod reader;
-
 use image::records::Counts;
 use image::texts::body;
 ghost use mathlib.Core.Path.{_≡_};

@@ -19,9 +19,9 @@ use Rattle.theorems.proofs.Inside.{LandingInside, StepInside, one-component-ins
 use Rattle.theorems.proofs.Acceptance.{accepted-sound}
 use Rattle.theorems.proofs.Cases.{cond-cases}
 use Rattle.text.specs.Positions.{nextStart, componentAt, componentBytes}
-use Rattle.text.specs.Spans.{spanAt}
+use Rattle.reader.specs.Spans.{spanAt}
 use Rattle.text.specs.Texts.{textOf, between}
-use Rattle.text.specs.declared.reader.Span.{Span}
+use Rattle.reader.specs.declared.Span.{Span}
 use Rattle.text.proofs.Components.{left-here, next-stands}
 use Rattle.component.specs.Outcomes.{requestFor, restrictionsFor, forbidAny, stopOr, landingOutcome, outcome}
 use Rattle.component.specs.Walking.{Walking}

@@ -6,7 +6,7 @@ use denote.Ref.{now}
 use Rattle.model.specs.Tree.{treeOf}
 use Rattle.theorems.proofs.EntryLaws.{is-directory, not-directory}
 use Rattle.text.specs.Texts.{textOf}
-use Rattle.text.specs.Spans.{spanAt}
+use Rattle.reader.specs.Spans.{spanAt}
 use Rattle.text.proofs.Components.{end-within}
 use Rattle.walk.proofs.StepLaws.{some-budget, few-taken, off-directory, goes-on, stepped}
 use Rattle.walk.proofs.Walk.step.Statement.{statement}

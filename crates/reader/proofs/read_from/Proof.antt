@@ -1,4 +1,4 @@
--- `text::reader::read_from` meets its contract: a walk of its MIR, by hand. A `Reader` is made of the slice and the number passed, in the
+-- `reader::read_from` meets its contract: a walk of its MIR, by hand. A `Reader` is made of the slice and the number passed, in the
 -- result's local.
 -- A `&[u8]` is Copy, so what it owns is had twice: once for src at exit, and once inside the result, beside the facts of at.
 -- Assumes nothing.
@@ -35,13 +35,13 @@ use denote.Triple.Spec.{Meets, tripleOf}
 use denote.Triple.Table.{entered}
 use denote.Triple.Walked.{says, Stays, stay-none, stay-none-slice, walkOf, goes-none, goes-none-slice, Walks, ends-at, walked, walk-meets}
 use denote.Exit.{yes}
-use Rattle.text.specs.declared.reader.Reader.{Reader}
-use Rattle.text.proofs.reader.Reader as T
-use Rattle.text.proofs.reader.Reader.Laws as T′
-use Rattle.text.proofs.reader.read_from.Key.{name as #text·reader·read-from}
-use Rattle.text.proofs.reader.read_from as made-by
-use Rattle.text.proofs.reader.read_from.Statement as stated
-use Rattle.text.proofs.reader.read_from.Code as code
+use Rattle.reader.specs.declared.Reader.{Reader}
+use Rattle.reader.proofs.Reader as T
+use Rattle.reader.proofs.Reader.Laws as T′
+use Rattle.reader.proofs.read_from.Key.{name as #reader·read-from}
+use Rattle.reader.proofs.read_from as made-by
+use Rattle.reader.proofs.read_from.Statement as stated
+use Rattle.reader.proofs.read_from.Code as code
 
 abbrev stayed : Stays (made-by.ended .signature .params) (made-by.ended .kept)
 stayed = (stay-none-slice (0 ∷ []) tt (plain (λ _. u8)) yes, (stay-none (λ _. usize) yes, tt))
@@ -95,5 +95,5 @@ pub read-from-spec : {M : Type 1} → stated.statement M
 unfolding code.routine tablesOf
 read-from-spec 𝓤 H 𝓜 𝓖 𝓡 =
     entered 𝓤 H (tripleOf 𝓤 H (𝓖 .A) made-by.signature (made-by.spec 𝓤 H (𝓖 .A) (𝓜 .mem) (𝓡 .run)))
-    (tables 𝓤 H 𝓜 𝓡 code.env .C) (tables 𝓤 H 𝓜 𝓡 code.env .Λ) #text·reader·read-from code.function (code.unfolded 𝓤 H 𝓜 𝓡)
+    (tables 𝓤 H 𝓜 𝓡 code.env .C) (tables 𝓤 H 𝓜 𝓡 code.env .Λ) #reader·read-from code.function (code.unfolded 𝓤 H 𝓜 𝓡)
     (read-from-meets 𝓤 H (𝓖 .A) (givenOf 𝓤 H 𝓜 𝓖) (𝓜 .mem) (𝓡 .run) (tablesOf 𝓤 H 𝓜 (tables 𝓤 H 𝓜 𝓡 code.env)))

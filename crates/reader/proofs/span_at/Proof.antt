@@ -1,12 +1,12 @@
--- `text::reader::span_at` meets its contract. Assumes nothing.
+-- `reader::span_at` meets its contract. Assumes nothing.
 use borrow.Author.Needs.{needs}
 use Prim.Native.Nat.{ℕ}
 use mathlib.Core.Path.{ap, ap₂, _∙_}
 use denote.Ref.{now}
 use Rattle.text.specs.Positions.{pastSlashes}
-use Rattle.text.specs.declared.reader.Span.{Span}
-use Rattle.text.proofs.reader.span_at.Statement.{statement}
-use Rattle.text.proofs.reader.span_at.Tie as tie
+use Rattle.reader.specs.declared.Span.{Span}
+use Rattle.reader.proofs.span_at.Statement.{statement}
+use Rattle.reader.proofs.span_at.Tie as tie
 
 component-end-requires : tie.Need-component-end-requires
 component-end-requires c κs = search needs

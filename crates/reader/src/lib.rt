@@ -1,9 +1,9 @@
 // "A reading place in the text that knows which bytes remain." The borrow checker covers no function over a struct that holds a
 // slice, so those here only take it apart or put it together, and are proved by hand; `span_at` does the work.
-use crate::component_end;
-use crate::skip_slashes;
+use text::component_end;
+use text::skip_slashes;
 ghost use mathlib.Core.Path.{_≡_};
-ghost use Rattle.text.specs.Spans.{spanAt};
+ghost use Rattle.reader.specs.Spans.{spanAt};
 
 // A text and a position in it: what remains are the bytes from there on.
 pub struct Reader<'a> {

@@ -1,8 +1,8 @@
 -- What a component spans in its text.
 use Prim.Native.Nat.{ℕ}
 use mathlib.Core.List.{List}
 use Rattle.text.specs.Positions.{componentEnd, nextStart}
-use Rattle.text.specs.declared.reader.Span.{Span}
+use Rattle.reader.specs.declared.Span.{Span}
 
 -- the component at a position: where it ends, and where the next one starts
 abbrev pub spanAt : List ℕ → ℕ → Span
