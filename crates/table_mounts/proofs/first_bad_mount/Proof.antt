@@ -1,23 +1,15 @@
-use borrow.Author.Needs.{needs}
-use Prim.Native.Nat.{ℕ, zero, suc, _+_, _-_, _*_, _^_, _≤_, _<_}
-use mathlib.Core.Bool.{Bool, true, false, not, _&&_, and-false, and-true}
-use mathlib.Core.Option.{some, none}
-use mathlib.Core.Path.{_≡_, refl, ap, ap₂, _∙_, sym, subst}
+use Prim.Native.Nat.{_-_, _≤_}
+use mathlib.Core.Bool.{not}
+use mathlib.Core.Path.{_≡_, ap, _∙_, sym}
 use native.Mathlib.Omega.{arith}
-use borrow.Author.Tests.{eq-eqb, ne-eqb, lt-ltb, le-ltb, le-leb, lt-leb, not-true, not-false}
-use lib.Dec.{eqb}
 use denote.Ref.{now}
-use Rattle.model.specs.Bytes.{find, firstFailing, isSome}
-use Rattle.model.specs.Tree.{treeOf, isDirectory, under}
-use Rattle.model.specs.TableCheck.{pointHolds, sharesPoint, hangs, mountHolds, rule6}
+use Rattle.model.specs.Bytes.{find, firstFailing}
+use Rattle.model.specs.Tree.{treeOf}
+use Rattle.model.specs.TableCheck.{mountHolds, rule6}
 use Rattle.theorems.proofs.ByteLaws.{find-here, find-on, find-done}
 use Rattle.image.specs.Searches.{searchOf}
-use Rattle.table_mounts.proofs.Laws.{hangs-above}
 use Rattle.table_mounts.proofs.first_bad_mount.Statement.{statement}
 use Rattle.table_mounts.proofs.first_bad_mount.Tie as tie
-use Rattle.table_mounts.proofs.first_bad_mount.Reads as reads
-use Rattle.table_mounts.proofs.first_bad_mount.Lts as lts
-use Rattle.table_mounts.proofs.mount_holds.Reads as mount-holds-reads
 
 abbrev Inv-loop : tie.InvT-loop
 Inv-loop image c end m₀ m = (end ≡ treeOf image .mounts) × (m ≤ end)
@@ -26,7 +18,6 @@ Inv-loop image c end m₀ m = (end ≡ treeOf image .mounts) × (m ≤ end)
 abbrev μ-loop : tie.MeasureT-loop
 μ-loop image c end m₀ m = end - m
 
--- src/lib.rt:96:5
 loop-holds : tie.Need-loop-holds Inv-loop μ-loop
 unfolding rule6 firstFailing
 loop-holds c =
@@ -34,27 +25,21 @@ loop-holds c =
     let k : c .before .args .c .mounts - 0 ≡ treeOf (now (c .before .args .image)) .mounts = omega (arith, e) in
     (e, omega arith, rw k)
 
--- src/lib.rt:97:13
 mount-holds-requires : tie.Need-mount-holds-requires Inv-loop μ-loop
 mount-holds-requires c κs = (c .before .before .before .pre .0, c .before .before .before .pre .1, omega arith)
 
--- src/lib.rt:98:13
 returns : tie.Need-returns Inv-loop μ-loop
 returns c = sym (ap searchOf (c .before .before .before .loop .inv .2 ∙ find-here (λ k. not (mountHolds (treeOf (now (c .before .before .before .before .before .args .image))) k)) (c .before .before .before .loop .m) _ (c .before .before .loop-test .taken) (ap not (sym (c .before .mount-holds .ensures)) ∙ c .if1 .taken)))
 
--- src/lib.rt:100:9
 add-m : tie.Need-add-m Inv-loop μ-loop
 add-m c = omega arith
 
--- src/lib.rt:96:5
 loop-less : tie.Need-loop-less Inv-loop μ-loop
 loop-less c = omega arith
 
--- src/lib.rt:96:5
 loop-again : tie.Need-loop-again Inv-loop μ-loop
 loop-again c = (c .before .before .before .loop .inv .0, omega arith, c .before .before .before .loop .inv .2 ∙ find-on (λ k. not (mountHolds (treeOf (now (c .before .before .before .before .before .args .image))) k)) (c .before .before .before .loop .m) _ (c .before .before .loop-test .taken) (ap not (sym (c .before .mount-holds .ensures)) ∙ c .if1 .left))
 
--- src/lib.rt:90:1
 returns-2 : tie.Need-returns-2 Inv-loop μ-loop
 returns-2 c = sym (ap searchOf (c .before .loop .inv .2 ∙ find-done (λ k. not (mountHolds (treeOf (now (c .before .before .before .args .image))) k)) (c .before .loop .m) _ (c .loop-test .left)))
 
