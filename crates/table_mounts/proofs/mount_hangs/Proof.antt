@@ -14,27 +14,27 @@ mount-0-hangs-requires : tie.Need-mount-0-hangs-requires
 mount-0-hangs-requires c κs = search needs
 
 returns : tie.Need-returns
-returns c = c .mount-0-hangs .ensures ∙ ap (hangs (treeOf (now (c .before .before .before .args .image)))) (sym (c .before .if1 .taken))
+returns c = c .mount-0-hangs .ensures ∙ ap (hangs (treeOf (now (c .before .before .before .before .args .image)))) (sym (c .before .if1 .taken))
 
 mount-parent-requires : tie.Need-mount-parent-requires
 mount-parent-requires c κs = search needs
 
 returns-2 : tie.Need-returns-2
-returns-2 c = sym (hangs-above (treeOf (now (c .before .before .before .before .args .image))) (c .before .before .before .before .args .m) (omega arith) ∙ rw (le-ltb (treeOf (now (c .before .before .before .before .args .image)) .mountParent (c .before .before .before .before .args .m)) (c .before .before .before .before .args .m) (omega arith)))
+returns-2 c = sym (hangs-above (treeOf (now (c .before .before .before .before .before .args .image))) (c .before .before .before .before .before .args .m) (omega arith) ∙ rw (le-ltb (treeOf (now (c .before .before .before .before .before .args .image)) .mountParent (c .before .before .before .before .before .args .m)) (c .before .before .before .before .before .args .m) (omega arith)))
 
 point-holds-requires : tie.Need-point-holds-requires
 point-holds-requires c κs = search needs
 
 returns-3 : tie.Need-returns-3
-returns-3 c = sym (hangs-above (treeOf (now (c .before .before .before .before .before .before .args .image))) (c .before .before .before .before .before .before .args .m) (omega arith) ∙ simp (sym (c .before .point-holds .ensures) ∙ not-true _ (c .if3 .taken), and-false))
+returns-3 c = sym (hangs-above (treeOf (now (c .before .before .before .before .before .before .before .args .image))) (c .before .before .before .before .before .before .before .args .m) (omega arith) ∙ simp (sym (c .before .point-holds .ensures) ∙ not-true _ (c .if3 .taken), and-false))
 
-shares-point-requires : tie.Need-shares-point-requires
-shares-point-requires c κs = search needs
+clashes-requires : tie.Need-clashes-requires
+clashes-requires c κs = search needs
 
 returns-4 : tie.Need-returns-4
 returns-4 c =
-    let t = treeOf (now (c .before .before .before .before .before .before .before .args .image)) in
-    ap not (c .shares-point .ensures) ∙ sym (hangs-above t (c .before .before .before .before .before .before .before .args .m) (omega arith) ∙ rw (lt-ltb (t .mountParent (c .before .before .before .before .before .before .before .args .m)) (c .before .before .before .before .before .before .before .args .m) (omega arith), sym (c .before .before .point-holds .ensures) ∙ not-false _ (c .before .if3 .left)))
+    let t = treeOf (now (c .before .before .before .before .before .before .before .before .args .image)) in
+    ap not (c .clashes .ensures) ∙ sym (hangs-above t (c .before .before .before .before .before .before .before .before .args .m) (omega arith) ∙ rw (lt-ltb (t .mountParent (c .before .before .before .before .before .before .before .before .args .m)) (c .before .before .before .before .before .before .before .before .args .m) (omega arith), sym (c .before .before .point-holds .ensures) ∙ not-false _ (c .before .if3 .left)))
 
 pub mount-hangs-spec : {M : Type 1} → statement M
 mount-hangs-spec =
@@ -46,5 +46,5 @@ mount-hangs-spec =
     returns-2
     point-holds-requires
     returns-3
-    shares-point-requires
+    clashes-requires
     returns-4)

@@ -16,14 +16,14 @@ is-directory-requires c κs = search needs
 
 returns : tie.Need-returns
 unfolding mountHolds
-returns c = let t = treeOf (now (c .before .before .before .before .args .image)) in simp (ap (isDirectory t) (sym (c .before .before .mount-root .ensures .0)) ∙ sym (c .before .is-directory .ensures) ∙ not-true _ (c .if1 .taken))
+returns c = let t = treeOf (now (c .before .before .before .before .before .args .image)) in simp (ap (isDirectory t) (sym (c .before .before .mount-root .ensures .0)) ∙ sym (c .before .is-directory .ensures) ∙ not-true _ (c .if1 .taken))
 
 mount-zero-requires : tie.Need-mount-zero-requires
 mount-zero-requires c κs = search needs
 
 returns-2 : tie.Need-returns-2
 unfolding mountHolds
-returns-2 c = simp (ne-eqb (treeOf (now (c .before .before .before .before .before .before .args .image)) .mountZero (c .before .before .before .before .before .before .args .m)) 0 (λ e. c .if2 .taken (c .before .mount-zero .ensures .0 ∙ e)), and-false)
+returns-2 c = simp (ne-eqb (treeOf (now (c .before .before .before .before .before .before .before .args .image)) .mountZero (c .before .before .before .before .before .before .before .args .m)) 0 (λ e. c .if2 .taken (c .before .mount-zero .ensures .0 ∙ e)), and-false)
 
 mount-hangs-requires : tie.Need-mount-hangs-requires
 mount-hangs-requires c κs = search needs
@@ -31,8 +31,8 @@ mount-hangs-requires c κs = search needs
 returns-3 : tie.Need-returns-3
 unfolding mountHolds
 returns-3 c =
-    let t = treeOf (now (c .before .before .before .before .before .before .before .args .image)) in
-    c .mount-hangs .ensures ∙ rw (ap (isDirectory t) (sym (c .before .before .before .before .before .mount-root .ensures .0)) ∙ sym (c .before .before .before .before .is-directory .ensures) ∙ not-false _ (c .before .before .before .if1 .left), eq-eqb (t .mountZero (c .before .before .before .before .before .before .before .args .m)) 0 (sym (c .before .before .mount-zero .ensures .0) ∙ c .before .if2 .left))
+    let t = treeOf (now (c .before .before .before .before .before .before .before .before .args .image)) in
+    c .mount-hangs .ensures ∙ rw (ap (isDirectory t) (sym (c .before .before .before .before .before .mount-root .ensures .0)) ∙ sym (c .before .before .before .before .is-directory .ensures) ∙ not-false _ (c .before .before .before .if1 .left), eq-eqb (t .mountZero (c .before .before .before .before .before .before .before .before .args .m)) 0 (sym (c .before .before .mount-zero .ensures .0) ∙ c .before .if2 .left))
 
 pub mount-holds-spec : {M : Type 1} → statement M
 mount-holds-spec =
