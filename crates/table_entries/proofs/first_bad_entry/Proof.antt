@@ -1,6 +1,6 @@
-use Prim.Native.Nat.{_-_, _≤_}
+use Prim.Native.Nat.{_+_, _-_, _≤_}
 use mathlib.Core.Bool.{not}
-use mathlib.Core.Option.{some}
+use mathlib.Core.Option.{some, none}
 use mathlib.Core.Path.{_≡_, ap, _∙_, sym}
 use native.Mathlib.Omega.{arith}
 use denote.Ref.{now}
@@ -42,6 +42,17 @@ returns c =
 enum-told : tie.Need-enum-told Inv-loop μ-loop
 enum-told c = omega arith
 
+ends-entries-requires : tie.Need-ends-entries-requires Inv-loop μ-loop
+ends-entries-requires c κs = (c .before .before .before .before .before .before .pre .0, c .before .before .before .before .before .before .pre .1, omega arith)
+
+returns-2 : tie.Need-returns-2 Inv-loop μ-loop
+returns-2 c =
+    let t = treeOf (now (c .before .before .before .before .before .before .before .before .args .image)) in
+    let r = search-nowhere (badOf t (c .before .before .before .before .before .before .loop .n)) (sym (c .before .before .before .before .bad-in-node .ensures) ∙ c .before .before .enum-told .given .1) in
+    let e : countsBefore t (c .before .before .before .before .before .before .loop .n + 1) ≡ t .entries = c .before .ends-entries .ensures (c .if1 .taken) in
+    let k : rule5 t ≡ none = c .before .before .before .before .before .before .loop .inv .2 ∙ node-step t (c .before .before .before .before .before .before .before .before .pre .1) (c .before .before .before .before .before .before .loop .n) (omega arith) ∙ rw r (find-done (λ k. not (entryHolds t k)) (countsBefore t (c .before .before .before .before .before .before .loop .n + 1)) (t .entries) (omega arith)) in
+    sym (ap searchOf k)
+
 add-n : tie.Need-add-n Inv-loop μ-loop
 add-n c = omega arith
 
@@ -50,12 +61,12 @@ loop-less c = omega arith
 
 loop-again : tie.Need-loop-again Inv-loop μ-loop
 loop-again c =
-    let t = treeOf (now (c .before .before .before .before .before .before .args .image)) in
-    let r = search-nowhere (badOf t (c .before .before .before .before .loop .n)) (sym (c .before .before .bad-in-node .ensures) ∙ c .enum-told .given .1) in
-    (c .before .before .before .before .loop .inv .0, omega arith, c .before .before .before .before .loop .inv .2 ∙ node-step t (c .before .before .before .before .before .before .pre .1) (c .before .before .before .before .loop .n) (omega arith) ∙ rw r)
+    let t = treeOf (now (c .before .before .before .before .before .before .before .before .args .image)) in
+    let r = search-nowhere (badOf t (c .before .before .before .before .before .before .loop .n)) (sym (c .before .before .before .before .bad-in-node .ensures) ∙ c .before .before .enum-told .given .1) in
+    (c .before .before .before .before .before .before .loop .inv .0, omega arith, c .before .before .before .before .before .before .loop .inv .2 ∙ node-step t (c .before .before .before .before .before .before .before .before .pre .1) (c .before .before .before .before .before .before .loop .n) (omega arith) ∙ rw r)
 
-returns-2 : tie.Need-returns-2 Inv-loop μ-loop
-returns-2 c =
+returns-3 : tie.Need-returns-3 Inv-loop μ-loop
+returns-3 c =
     let t = treeOf (now (c .before .before .before .args .image)) in
     let n : c .before .loop .n ≡ t .nodes = omega arith in
     let e : countsBefore t (c .before .loop .n) ≡ t .entries = ap (countsBefore t) n ∙ c .before .before .before .pre .1 .counts-sum in
@@ -72,7 +83,9 @@ first-bad-entry-spec =
     enum-known-found
     returns
     enum-told
+    ends-entries-requires
+    returns-2
     add-n
     loop-less
     loop-again
-    returns-2)
+    returns-3)
