@@ -1,6 +1,6 @@
 -- Laws of names: forbidden bytes from a position on, and the names "." and "..". Assumes nothing.
 use Prim.Native.Nat.{ℕ, zero, suc, _+_, _≤_, _<_}
-use mathlib.Core.Bool.{Bool, true, false, not, _&&_, _||_, and-true, and-false, or-true, or-false}
+use mathlib.Core.Bool.{Bool, true, false, not, _&&_, _||_, and-true, and-false}
 use mathlib.Core.List.{List, [], _∷_}
 use mathlib.Core.Path.{_≡_, refl, sym, ap, ap₂, _∙_}
 use native.Mathlib.Omega.{arith}
@@ -28,16 +28,16 @@ forbids-next s i h =
     ap₂ _||_ (contains-next 0 s i h) (contains-next 47 s i h)
     ∙ sorted (eqb (getD s i 0) 0) (contains 0 (drop (i + 1) s)) (eqb (getD s i 0) 47) (contains 47 (drop (i + 1) s))
 
-pub forbids-hit : (s : List ℕ) (i : ℕ) (found : Bool) → i < length s → forbids s ≡ found || forbids (drop i s)
-    → (eqb (getD s i 0) 0 || eqb (getD s i 0) 47) ≡ true → forbids s ≡ true
-forbids-hit s i found h seen e = seen ∙ ap (λ (b : Bool). found || b) (forbids-next s i h ∙ ap (λ (b : Bool). b || forbids (drop (i + 1) s)) e) ∙ or-true found
+-- what is known of the bytes before a position, and of the one at it
+module _ (s : List ℕ) (i : ℕ) (seen : forbids s ≡ forbids (drop i s)) where
+  pub forbids-hit : i < length s → (eqb (getD s i 0) 0 || eqb (getD s i 0) 47) ≡ true → forbids s ≡ true
+  forbids-hit h e = seen ∙ forbids-next s i h ∙ ap (λ (b : Bool). b || forbids (drop (i + 1) s)) e
 
-pub forbids-miss : (s : List ℕ) (i : ℕ) (found : Bool) → i < length s → forbids s ≡ found || forbids (drop i s)
-    → (eqb (getD s i 0) 0 || eqb (getD s i 0) 47) ≡ false → forbids s ≡ found || forbids (drop (i + 1) s)
-forbids-miss s i found h seen e = seen ∙ ap (λ (b : Bool). found || b) (forbids-next s i h ∙ ap (λ (b : Bool). b || forbids (drop (i + 1) s)) e)
+  pub forbids-miss : i < length s → (eqb (getD s i 0) 0 || eqb (getD s i 0) 47) ≡ false → forbids s ≡ forbids (drop (i + 1) s)
+  forbids-miss h e = seen ∙ forbids-next s i h ∙ ap (λ (b : Bool). b || forbids (drop (i + 1) s)) e
 
-pub forbids-all : (s : List ℕ) (i : ℕ) (found : Bool) → length s ≤ i → forbids s ≡ found || forbids (drop i s) → found ≡ forbids s
-forbids-all s i found h seen = sym (seen ∙ ap (λ (b : Bool). found || b) (ap₂ _||_ (contains-end 0 s i h) (contains-end 47 s i h)) ∙ or-false found)
+  pub forbids-none : length s ≤ i → forbids s ≡ false
+  forbids-none h = seen ∙ ap₂ _||_ (contains-end 0 s i h) (contains-end 47 s i h)
 
 -- "." or ".."
 abbrev pub dots : List ℕ → Bool

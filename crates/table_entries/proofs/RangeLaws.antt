@@ -9,9 +9,10 @@ use Rattle.model.specs.Bytes.{find, firstFailing, orElse}
 use Rattle.model.specs.Tree.{Tree}
 use Rattle.model.specs.TableCheck.{countsBefore, directoryCount, nameHolds, ascends, standsInParent, entryHolds, rule5}
 use Rattle.theorems.specs.Acceptance.{NodesHold}
-use Rattle.theorems.proofs.Acceptance.{counts-grow}
+use Rattle.theorems.proofs.Acceptance.{first-sum, counts-grow, counts-next}
 use Rattle.theorems.proofs.ByteLaws.{find-append}
 use Rattle.theorems.proofs.Cases.{both}
+use Rattle.theorems.proofs.EntryLaws.{is-directory}
 use Rattle.table_entries.specs.Ranges.{badIn, badOf}
 
 -- an entry that keeps the rule has a name that does
@@ -27,6 +28,10 @@ counts-suc t n = rw (add-one n)
 module _ (t : Tree) (nodes : NodesHold t) where
   pub counts-fit : (n : ℕ) → n ≤ t .nodes → countsBefore t n ≤ t .entries
   counts-fit n h = omega (arith, counts-grow t nodes n (t .nodes) h, nodes .counts-sum)
+
+  -- a directory whose entries end where all do
+  pub counts-end : (n : ℕ) → n < t .nodes → t .kind n ≡ 1 → t .first n + t .count n ≡ t .entries → countsBefore t (n + 1) ≡ t .entries
+  counts-end n h k e = ap (countsBefore t) (add-one n) ∙ omega (arith, counts-next t nodes n k, first-sum t nodes n (is-directory t n h k))
 
   -- the entries from a node on are its own and those from the next node on
   pub node-step : (n : ℕ) → n < t .nodes

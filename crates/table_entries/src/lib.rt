@@ -14,9 +14,9 @@ use image::strings::comes_before;
 use image::texts::name;
 ghost use mathlib.Core.Bool.{true};
 ghost use mathlib.Core.Path.{_≡_};
-ghost use Prim.Native.Nat.{ℕ, _-_, _≤_, _<_};
+ghost use Prim.Native.Nat.{ℕ, _+_, _-_, _≤_, _<_};
 ghost use Rattle.model.specs.Tree.{treeOf, isDirectory};
-ghost use Rattle.model.specs.TableCheck.{nameHolds, ascends, standsInParent, entryHolds, rule5};
+ghost use Rattle.model.specs.TableCheck.{countsBefore, nameHolds, ascends, standsInParent, entryHolds, rule5};
 ghost use Rattle.theorems.specs.Acceptance.{Sized, NodesHold};
 ghost use Rattle.theorems.proofs.EntryLaws.{Held};
 ghost use Rattle.image.specs.Counts.{Counted};
@@ -92,6 +92,17 @@ fn bad_in_node(image: &[u8], c: Counts, text: usize, n: usize) -> Search
     bad_in_directory(image, c, text, n)
 }
 
+// Whether a directory has the last entry: the nodes after it have none.
+fn ends_entries(image: &[u8], c: Counts, n: usize) -> bool
+    requires { ⌜ Counted (now image) c × NodesHold (treeOf (now image)) × (n < treeOf (now image) .nodes) ⌝ }
+    ensures { λ r. ⌜ (r ≡ true → countsBefore (treeOf (now (image .entry))) (n + 1) ≡ treeOf (now (image .entry)) .entries) ⌝ }
+{
+    if node_kind(image, n) != 1 {
+        return false;
+    }
+    node_first(image, n) + node_count(image, n) == c.entries
+}
+
 pub fn first_bad_entry(image: &[u8], c: Counts, text: usize) -> Search
     requires { ⌜ Counted (now image) c × NodesHold (treeOf (now image)) × (text ≡ treeOf (now image) .textLength) ⌝ }
     ensures { λ r. ⌜ r ≡ searchOf (rule5 (treeOf (now (image .entry)))) ⌝ }
@@ -102,6 +113,9 @@ pub fn first_bad_entry(image: &[u8], c: Counts, text: usize) -> Search
         let found = bad_in_node(image, c, text, n);
         if let Search::At(e) = found {
             return Search::At(e);
+        }
+        if ends_entries(image, c, n) {
+            return Search::Nowhere;
         }
         n += 1;
     }

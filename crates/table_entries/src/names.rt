@@ -22,19 +22,52 @@ fn forbidden(b: u8) -> bool
     b == 47
 }
 
-// Whether a zero byte or a slash stands in a name. No early exit: the loop is then compiled to vector code.
-fn holds_forbidden(s: &[u8]) -> bool
+// Names shorter than this are read byte by byte: setting vector code up costs more than it saves.
+const SHORT: usize = 16;
+
+fn short_holds_forbidden(s: &[u8]) -> bool
     ensures { λ r. ⌜ r ≡ contains 0 (now (s .entry)) || contains 47 (now (s .entry)) ⌝ }
 {
-    let mut found = false;
     let mut i = 0;
     while i < s.len() {
         if forbidden(s[i]) {
-            found = true;
+            return true;
         }
         i += 1;
     }
-    found
+    false
+}
+
+// No early exit, and a flag for each byte: the loop is then compiled to vector code.
+fn long_holds_forbidden(s: &[u8]) -> bool
+    ensures { λ r. ⌜ r ≡ contains 0 (now (s .entry)) || contains 47 (now (s .entry)) ⌝ }
+{
+    let mut zero = false;
+    let mut slash = false;
+    let mut i = 0;
+    while i < s.len() {
+        if s[i] == 0 {
+            zero = true;
+        }
+        if s[i] == 47 {
+            slash = true;
+        }
+        i += 1;
+    }
+    if zero {
+        return true;
+    }
+    slash
+}
+
+// Whether a zero byte or a slash stands in a name.
+fn holds_forbidden(s: &[u8]) -> bool
+    ensures { λ r. ⌜ r ≡ contains 0 (now (s .entry)) || contains 47 (now (s .entry)) ⌝ }
+{
+    if s.len() < SHORT {
+        return short_holds_forbidden(s);
+    }
+    long_holds_forbidden(s)
 }
 
 // "." or "..", of a name that is not empty.

@@ -9,12 +9,20 @@ use image::search::Search;
 use tree::is_directory;
 use tree::is_under;
 ghost use mathlib.Core.Path.{_≡_};
-ghost use Prim.Native.Nat.{ℕ, _≤_, _<_};
+ghost use Prim.Native.Nat.{ℕ, _+_, _≤_, _<_};
 ghost use Rattle.model.specs.Tree.{treeOf, isDirectory};
 ghost use Rattle.model.specs.TableCheck.{pointHolds, sharesPoint, hangs, mountHolds, rule6};
 ghost use Rattle.theorems.specs.Acceptance.{NodesHold};
 ghost use Rattle.image.specs.Counts.{Counted};
 ghost use Rattle.image.specs.Searches.{searchOf};
+ghost use lib.ListN.{length};
+ghost use Rattle.table_mounts.specs.Points.{Noted};
+
+// A byte for each node that a table can have.
+const NODES: usize = 4096;
+
+// So few mounts are searched sooner than the bytes are cleared.
+const FEW: usize = 16;
 
 fn point_holds(image: &[u8], c: Counts, m: usize, parent: usize) -> bool
     requires { ⌜ Counted (now image) c × NodesHold (treeOf (now image)) × (m < treeOf (now image) .mounts) × (parent ≡ treeOf (now image) .mountParent m) × (parent < m) ⌝ }
@@ -47,6 +55,30 @@ fn shares_point(image: &[u8], c: Counts, m: usize) -> bool
     false
 }
 
+// The same. Only where the point's byte is set are the earlier mounts searched; a point past the bytes has none.
+fn clashes(image: &[u8], c: Counts, points: &[u8], m: usize) -> bool
+    requires { ⌜ Counted (now image) c × (m < treeOf (now image) .mounts) × Noted (treeOf (now image)) m (now points) ⌝ }
+    ensures { λ r. ⌜ r ≡ sharesPoint (treeOf (now (image .entry))) m ⌝ }
+{
+    let point = mount_point(image, c, m);
+    if point < points.len() {
+        if points[point] == 0 {
+            return false;
+        }
+    }
+    shares_point(image, c, m)
+}
+
+fn note_point(image: &[u8], c: Counts, m: usize, points: &mut [u8])
+    requires { ⌜ Counted (now image) c × (m < treeOf (now image) .mounts) × Noted (treeOf (now image)) m (now points) ⌝ }
+    ensures { λ _. ⌜ Noted (treeOf (now (image .entry))) (m + 1) (now (points .exit)) × (length (now (points .exit)) ≡ length (now (points .entry))) ⌝ }
+{
+    let point = mount_point(image, c, m);
+    if point < points.len() {
+        points[point] = 1;
+    }
+}
+
 fn mount_0_hangs(image: &[u8], c: Counts) -> bool
     requires { ⌜ Counted (now image) c ⌝ }
     ensures { λ r. ⌜ r ≡ hangs (treeOf (now (image .entry))) 0 ⌝ }
@@ -57,8 +89,8 @@ fn mount_0_hangs(image: &[u8], c: Counts) -> bool
     mount_point(image, c, 0) == mount_root(image, c, 0)
 }
 
-fn mount_hangs(image: &[u8], c: Counts, m: usize) -> bool
-    requires { ⌜ Counted (now image) c × NodesHold (treeOf (now image)) × (m < treeOf (now image) .mounts) ⌝ }
+fn mount_hangs(image: &[u8], c: Counts, points: &[u8], m: usize) -> bool
+    requires { ⌜ Counted (now image) c × NodesHold (treeOf (now image)) × (m < treeOf (now image) .mounts) × Noted (treeOf (now image)) m (now points) ⌝ }
     ensures { λ r. ⌜ r ≡ hangs (treeOf (now (image .entry))) m ⌝ }
 {
     if m == 0 {
@@ -71,11 +103,11 @@ fn mount_hangs(image: &[u8], c: Counts, m: usize) -> bool
     if !point_holds(image, c, m, parent) {
         return false;
     }
-    !shares_point(image, c, m)
+    !clashes(image, c, points, m)
 }
 
-fn mount_holds(image: &[u8], c: Counts, m: usize) -> bool
-    requires { ⌜ Counted (now image) c × NodesHold (treeOf (now image)) × (m < treeOf (now image) .mounts) ⌝ }
+fn mount_holds(image: &[u8], c: Counts, points: &[u8], m: usize) -> bool
+    requires { ⌜ Counted (now image) c × NodesHold (treeOf (now image)) × (m < treeOf (now image) .mounts) × Noted (treeOf (now image)) m (now points) ⌝ }
     ensures { λ r. ⌜ r ≡ mountHolds (treeOf (now (image .entry))) m ⌝ }
 {
     if !is_directory(image, c, mount_root(image, c, m)) {
@@ -84,20 +116,33 @@ fn mount_holds(image: &[u8], c: Counts, m: usize) -> bool
     if mount_zero(image, c, m) != 0 {
         return false;
     }
-    mount_hangs(image, c, m)
+    mount_hangs(image, c, points, m)
 }
 
-pub fn first_bad_mount(image: &[u8], c: Counts) -> Search
+fn first_bad(image: &[u8], c: Counts, points: &mut [u8]) -> Search
     requires { ⌜ Counted (now image) c × NodesHold (treeOf (now image)) ⌝ }
     ensures { λ r. ⌜ r ≡ searchOf (rule6 (treeOf (now (image .entry)))) ⌝ }
 {
     let end = c.mounts;
     let mut m = 0;
     while m < end {
-        if !mount_holds(image, c, m) {
+        if !mount_holds(image, c, points, m) {
             return Search::At(m);
         }
+        note_point(image, c, m, points);
         m += 1;
     }
     Search::Nowhere
+}
+
+pub fn first_bad_mount(image: &[u8], c: Counts) -> Search
+    requires { ⌜ Counted (now image) c × NodesHold (treeOf (now image)) ⌝ }
+    ensures { λ r. ⌜ r ≡ searchOf (rule6 (treeOf (now (image .entry)))) ⌝ }
+{
+    if c.mounts <= FEW {
+        let mut none = [0u8; 1];
+        return first_bad(image, c, &mut none);
+    }
+    let mut points = [0u8; NODES];
+    first_bad(image, c, &mut points)
 }

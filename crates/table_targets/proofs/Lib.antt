@@ -1,3 +1,3 @@
 -- The laws that the functions' proofs cite.
-pub mod LimitLaws
-pub mod TargetLaws
+pub mod LeadLaws
+pub mod NearLaws

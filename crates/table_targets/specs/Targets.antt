@@ -1,14 +1,15 @@
--- Rule 7 in the parts that the code decides one after the other: what a magic link's own record tells, and mount by mount whether
--- the directories that links lead to are under its root.
-use Prim.Native.Nat.{ℕ, _≤_, _<_}
-use mathlib.Core.Bool.{Bool, true, false, cond, _&&_}
+-- Rule 7 in the parts that the code decides: what a magic link's own record tells, and whether a directory is under a mount's root,
+-- by the nearest directory above it that is the root of some mount.
+use Prim.Native.Nat.{ℕ, _+_, _-_, _≤_, _<_}
+use mathlib.Core.Bool.{Bool, true, false, cond, not, _&&_}
 use mathlib.Core.List.{List}
-use mathlib.Core.Option.{Option, none, some}
+use mathlib.Core.Option.{Option}
 use mathlib.Core.Path.{_≡_}
 use lib.Dec.{eqb, ltb}
-use lib.ListN.{length, getD, set}
-use Rattle.model.specs.Bytes.{firstFailing}
+use lib.ListN.{length, getD}
+use Rattle.model.specs.Bytes.{find}
 use Rattle.model.specs.Tree.{Tree, byKind, isDirectory, under}
+use Rattle.model.specs.TableCheck.{magicTargetHolds}
 use Rattle.table_targets.specs.declared.Lead.{Lead}
 use Rattle.table_targets.specs.declared.Lead.the-variants.{Settled, Into, Dangling}
 
@@ -21,60 +22,40 @@ leadOf t n =
     Dangling)
     Settled
 
--- the record alone does not break the rule: it does not dangle
-abbrev pub lands : Lead → Bool
-lands Settled = true
-lands (Into mount node) = true
-lands Dangling = false
+-- the record alone keeps the rule
+abbrev pub settled : Lead → Bool
+settled Settled = true
+settled (Into mount node) = false
+settled Dangling = false
 
--- where it leads into mount m, it leads under that mount's root
-abbrev pub inside : Tree → ℕ → Lead → Bool
-inside t m Settled = true
-inside t m (Into mount node) = cond (eqb mount m) (under t node (t .mountRoot mount)) true
-inside t m Dangling = true
+-- the lowest node from n on that breaks the rule
+abbrev pub badFrom : Tree → ℕ → Option ℕ
+badFrom t n = find (λ k. not (magicTargetHolds t k)) n (t .nodes - n)
 
--- the same of every mount below m, and the record alone does not break the rule
-abbrev pub insideBelow : Tree → ℕ → Lead → Bool
-insideBelow t m Settled = true
-insideBelow t m (Into mount node) = cond (ltb mount m) (under t node (t .mountRoot mount)) true
-insideBelow t m Dangling = false
+-- Where following parents from n can meet r, by a number k: 0 if nowhere, else from the directory k - 1 on.
+pub record Reached (t : Tree) (n r k : ℕ) : Type 0 where
+  pub nowhere : k ≡ 0 → under t n r ≡ false
+  pub from : (j : ℕ) → k ≡ j + 1 → (isDirectory t j ≡ true) × (under t n r ≡ under t j r)
 
--- node n keeps the rule as far as mount m tells
-unfoldable pub keepsIn : Tree → ℕ → ℕ → Bool
-keepsIn t m n = inside t m (leadOf t n)
+-- k - 1 is the nearest directory at or above n that is a mount's root, or k is 0 and there is none
+pub record Nearest (t : Tree) (n k : ℕ) : Type 0 where
+  pub low : k ≤ n + 1
+  pub reached : (m : ℕ) → m < t .mounts → Reached t n (t .mountRoot m) k
 
--- node n keeps the rule as far as its record and the mounts below m tell
-unfoldable pub keepsBelow : Tree → ℕ → ℕ → Bool
-keepsBelow t m n = insideBelow t m (leadOf t n)
+-- the roots of the mounts below `end` have their own number and 1 in the list, and any other node has that or 0
+pub record Rooted (t : Tree) (end : ℕ) (near : List ℕ) : Type 0 where
+  pub room : t .nodes ≤ length near
+  pub own : (n : ℕ) → (getD near n 0 ≡ 0 → ⊥) → getD near n 0 ≡ n + 1
+  pub is-root : (m : ℕ) → m < end → getD near (t .mountRoot m) 0 ≡ t .mountRoot m + 1
 
-abbrev pub orCount : Option ℕ → ℕ → ℕ
-orCount none count = count
-orCount (some n) count = n
+-- what the list has for a node once it has it for every lower one: a parent that is not lower is the node itself, a top
+unfoldable pub nearestOf : Tree → List ℕ → ℕ → ℕ
+nearestOf t near n =
+    cond (eqb (getD near n 0) 0) (cond (ltb (t .parent n) n) (getD near (t .parent n) 0) 0) (getD near n 0)
 
--- the lowest number below count that fails the test, or count where none does
-unfoldable pub limitOf : (ℕ → Bool) → ℕ → ℕ
-limitOf test count = orCount (firstFailing test count) count
-
--- the number that a limit stands for, if it is one below count
-unfoldable pub below : ℕ → ℕ → Option ℕ
-below limit count = cond (ltb limit count) (some limit) none
-
--- the mount that is led into has the byte 1
-abbrev pub notedBy : Lead → List ℕ → List ℕ
-notedBy Settled noted = noted
-notedBy (Into mount node) noted = set noted mount 1
-notedBy Dangling noted = noted
-
--- every mount that a node below `end` leads into is noted, in a list with a byte for each mount
-pub record Noted (t : Tree) (end : ℕ) (noted : List ℕ) : Type 0 where
-  pub room : t .mounts ≤ length noted
-  pub is-noted : (n : ℕ) → n < end → (mount node : ℕ) → leadOf t n ≡ Into mount node → getD noted mount 0 ≡ 1
-
--- a node's mark, from those of lower nodes: a parent that is not lower is the node itself, a top
-unfoldable pub markOf : Tree → List ℕ → ℕ → ℕ → ℕ
-markOf t marks n root = cond (eqb n root) 1 (cond (ltb (t .parent n) n) (getD marks (t .parent n) 0) 0)
-
--- the directories below `end` that are under the root are marked, and the others are not, in a list with a byte for each node
-pub record Marked (t : Tree) (root end : ℕ) (marks : List ℕ) : Type 0 where
-  pub room : t .nodes ≤ length marks
-  pub mark : (n : ℕ) → n < end → isDirectory t n ≡ true → getD marks n 0 ≡ cond (under t n root) 1 0
+-- the directories below `end` have their nearest root, and the nodes from it on what they had as roots
+pub record Filled (t : Tree) (end : ℕ) (near : List ℕ) : Type 0 where
+  pub room : t .nodes ≤ length near
+  pub nearest : (n : ℕ) → n < end → isDirectory t n ≡ true → Nearest t n (getD near n 0)
+  pub own : (n : ℕ) → end ≤ n → (getD near n 0 ≡ 0 → ⊥) → getD near n 0 ≡ n + 1
+  pub is-root : (m : ℕ) → m < t .mounts → end ≤ t .mountRoot m → getD near (t .mountRoot m) 0 ≡ t .mountRoot m + 1

@@ -1,6 +1,6 @@
-// Rule 7 of the table check: the targets of magic links. A first pass over the nodes tests what a link's own record tells, and
-// notes the mounts in which a link leads to a directory. Each noted mount then has one pass that marks what is under its root and
-// one that tests the links into it, so that the cost stays within mounts times nodes, however many magic links there are.
+// Rule 7 of the table check: the targets of magic links. A first pass goes as far as records alone keep the rule. Only where a magic
+// link leads to a directory is there more to do: for each directory the nearest mount root at or above it is noted, so that the way
+// up from a link's target goes from mount root to mount root.
 use image::records::Counts;
 use image::records::mount_root;
 use image::records::node_count;
@@ -8,22 +8,19 @@ use image::records::node_first;
 use image::records::node_kind;
 use image::records::node_parent;
 use image::search::Search;
-use image::strings::holds_byte;
-ghost use mathlib.Core.Bool.{not};
+ghost use mathlib.Core.Bool.{true};
 ghost use mathlib.Core.Path.{_≡_};
-ghost use Prim.Native.Nat.{_≤_, _<_};
+ghost use Prim.Native.Nat.{ℕ, _≤_, _<_};
 ghost use lib.ListN.{length};
-ghost use Rattle.model.specs.Tree.{treeOf};
+ghost use Rattle.model.specs.Tree.{treeOf, isDirectory, under};
 ghost use Rattle.model.specs.TableCheck.{rule7, magicTargetHolds};
 ghost use Rattle.theorems.specs.Acceptance.{Sized, NodesHold, MountsHold};
 ghost use Rattle.image.specs.Counts.{Counted};
 ghost use Rattle.image.specs.Searches.{searchOf};
-ghost use Rattle.table_targets.specs.Targets.{leadOf, lands, keepsIn, keepsBelow, limitOf, below, notedBy, Noted, markOf, Marked};
+ghost use Rattle.table_targets.specs.Targets.{leadOf, settled, badFrom, Rooted, nearestOf, Filled};
 
-// The most that a table has of each: the local arrays have a byte for each.
+// The most nodes that a table has: the local array has a number for each.
 const NODES: usize = 4096;
-
-const MOUNTS: usize = 256;
 
 // What a node's record alone tells of the rule.
 enum Lead {
@@ -51,39 +48,32 @@ fn lead_of(image: &[u8], c: Counts, n: usize) -> Lead
         return Lead::Dangling;
     }
     let kind = node_kind(image, target);
-    if kind == 1 {
-        return Lead::Into(mount, target);
+    match kind {
+        1 => Lead::Into(mount, target),
+        2 => Lead::Settled,
+        _ => Lead::Dangling,
     }
-    if kind == 2 {
-        return Lead::Settled;
-    }
-    Lead::Dangling
 }
 
-// Notes the mount in which the node leads to a directory. False where the record alone breaks the rule.
-fn note_mount(image: &[u8], c: Counts, n: usize, noted: &mut [u8]) -> bool
-    requires { ⌜ Counted (now image) c × (n < treeOf (now image) .nodes) × (treeOf (now image) .mounts ≤ length (now noted)) ⌝ }
-    ensures { λ r. ⌜ (r ≡ lands (leadOf (treeOf (now (image .entry))) n)) × (now (noted .exit) ≡ notedBy (leadOf (treeOf (now (image .entry))) n) (now (noted .entry))) ⌝ }
+fn is_settled(l: Lead) -> bool
+    ensures { λ r. ⌜ r ≡ settled l ⌝ }
 {
-    match lead_of(image, c, n) {
+    match l {
         Lead::Settled => true,
-        Lead::Into(mount, _) => {
-            noted[mount] = 1;
-            true
-        }
+        Lead::Into(_, _) => false,
         Lead::Dangling => false,
     }
 }
 
-// The lowest node whose record alone breaks the rule, else the number of nodes. The mounts that nodes below it lead into are noted.
-fn first_dangling(image: &[u8], c: Counts, noted: &mut [u8]) -> usize
-    requires { ⌜ Counted (now image) c × (treeOf (now image) .mounts ≤ length (now noted)) ⌝ }
-    ensures { λ r. ⌜ (r ≡ limitOf (keepsBelow (treeOf (now (image .entry))) 0) (treeOf (now (image .entry)) .nodes)) × Noted (treeOf (now (image .entry))) r (now (noted .exit)) × (length (now (noted .exit)) ≡ length (now (noted .entry))) ⌝ }
+// The lowest node whose record alone does not keep the rule, else the number of nodes.
+fn first_unsettled(image: &[u8], c: Counts) -> usize
+    requires { ⌜ Counted (now image) c ⌝ }
+    ensures { λ r. ⌜ (r ≤ treeOf (now (image .entry)) .nodes) × (rule7 (treeOf (now (image .entry))) ≡ badFrom (treeOf (now (image .entry))) r) ⌝ }
 {
     let end = c.nodes;
     let mut n = 0;
     while n < end {
-        if !note_mount(image, c, n, noted) {
+        if !is_settled(lead_of(image, c, n)) {
             return n;
         }
         n += 1;
@@ -91,111 +81,107 @@ fn first_dangling(image: &[u8], c: Counts, noted: &mut [u8]) -> usize
     n
 }
 
-// Whether a directory is under the root, by its parent's mark: parents are never higher, and a top, its own parent, has nothing
-// above it. What is marked of other kinds is never asked.
-fn mark_of(image: &[u8], marks: &[u8], n: usize, root: usize) -> u8
-    requires { ⌜ Sized (now image) × (n < treeOf (now image) .nodes) × (n < length (now marks)) ⌝ }
-    ensures { λ r. ⌜ r ≡ markOf (treeOf (now (image .entry))) (now (marks .entry)) n root ⌝ }
+// Gives each mount's root its own number and 1.
+fn note_roots(image: &[u8], c: Counts, near: &mut [u16])
+    requires { ⌜ Counted (now image) c × NodesHold (treeOf (now image)) × MountsHold (treeOf (now image)) × Rooted (treeOf (now image)) 0 (now near) ⌝ }
+    ensures { λ _. ⌜ Rooted (treeOf (now (image .entry))) (treeOf (now (image .entry)) .mounts) (now (near .exit)) × (length (now (near .exit)) ≡ length (now (near .entry))) ⌝ }
 {
-    if n == root {
-        return 1;
+    let end = c.mounts;
+    let mut m = 0;
+    while m < end {
+        let root = mount_root(image, c, m);
+        near[root] = (root + 1) as u16;
+        m += 1;
+    }
+}
+
+// A directory that is no root has what its parent has: parents are never higher, and a top, its own parent, has none. What stands
+// at nodes of other kinds is never asked.
+fn nearest(image: &[u8], near: &[u16], n: usize) -> u16
+    requires { ⌜ Sized (now image) × (n < treeOf (now image) .nodes) × (n < length (now near)) ⌝ }
+    ensures { λ r. ⌜ r ≡ nearestOf (treeOf (now (image .entry))) (now (near .entry)) n ⌝ }
+{
+    let own = near[n];
+    if own != 0 {
+        return own;
     }
     let parent = node_parent(image, n);
     if parent < n {
-        return marks[parent];
+        return near[parent];
     }
     0
 }
 
-// Marks the directories that are under the root, and clears the others, whatever an earlier mount left there.
-fn mark_under(image: &[u8], c: Counts, root: usize, marks: &mut [u8])
-    requires { ⌜ Counted (now image) c × NodesHold (treeOf (now image)) × (treeOf (now image) .nodes ≤ length (now marks)) ⌝ }
-    ensures { λ _. ⌜ Marked (treeOf (now (image .entry))) root (treeOf (now (image .entry)) .nodes) (now (marks .exit)) × (length (now (marks .exit)) ≡ length (now (marks .entry))) ⌝ }
+// Gives each directory the nearest mount root at or above it, as the root's number and 1, or 0 where there is none.
+fn pass_down(image: &[u8], c: Counts, near: &mut [u16])
+    requires { ⌜ Counted (now image) c × NodesHold (treeOf (now image)) × Rooted (treeOf (now image)) (treeOf (now image) .mounts) (now near) ⌝ }
+    ensures { λ _. ⌜ Filled (treeOf (now (image .entry))) (treeOf (now (image .entry)) .nodes) (now (near .exit)) × (length (now (near .exit)) ≡ length (now (near .entry))) ⌝ }
 {
     let end = c.nodes;
     let mut n = 0;
     while n < end {
-        marks[n] = mark_of(image, marks, n, root);
+        near[n] = nearest(image, near, n);
         n += 1;
     }
 }
 
-// Whether a node is a magic link into mount m, to a directory that is not under the mount's root.
-fn leads_outside(image: &[u8], c: Counts, marks: &[u8], m: usize, n: usize) -> bool
-    requires { ⌜ Counted (now image) c × (n < treeOf (now image) .nodes) × Marked (treeOf (now image)) (treeOf (now image) .mountRoot m) (treeOf (now image) .nodes) (now marks) ⌝ }
-    ensures { λ r. ⌜ r ≡ not (keepsIn (treeOf (now (image .entry))) m n) ⌝ }
+fn wide(k: u16) -> usize
+    ensures { λ r. ⌜ (r ≡ k) × (r < 65536) ⌝ }
+{
+    k as usize
+}
+
+// Whether a directory is under a mount's root.
+fn is_within(image: &[u8], c: Counts, near: &[u16], mount: usize, target: usize) -> bool
+    requires { ⌜ Counted (now image) c × NodesHold (treeOf (now image)) × Filled (treeOf (now image)) (treeOf (now image) .nodes) (now near) × (mount < treeOf (now image) .mounts) × (isDirectory (treeOf (now image)) target ≡ true) ⌝ }
+    ensures { λ r. ⌜ r ≡ under (treeOf (now (image .entry))) target (treeOf (now (image .entry)) .mountRoot mount) ⌝ }
+{
+    let root = mount_root(image, c, mount);
+    let mut k = wide(near[target]);
+    while root + 1 < k {
+        let parent = node_parent(image, k - 1);
+        if parent + 1 == k {
+            return false;
+        }
+        k = wide(near[parent]);
+    }
+    k == root + 1
+}
+
+fn target_holds(image: &[u8], c: Counts, near: &[u16], n: usize) -> bool
+    requires { ⌜ Counted (now image) c × NodesHold (treeOf (now image)) × Filled (treeOf (now image)) (treeOf (now image) .nodes) (now near) × (n < treeOf (now image) .nodes) ⌝ }
+    ensures { λ r. ⌜ r ≡ magicTargetHolds (treeOf (now (image .entry))) n ⌝ }
 {
     match lead_of(image, c, n) {
-        Lead::Into(mount, target) => {
-            if mount == m {
-                marks[target] == 0
-            } else {
-                false
-            }
-        }
-        Lead::Settled => false,
+        Lead::Settled => true,
+        Lead::Into(mount, target) => is_within(image, c, near, mount, target),
         Lead::Dangling => false,
     }
 }
 
-// The lowest node below the limit that leads outside mount m, else the limit.
-fn first_outside(image: &[u8], c: Counts, marks: &[u8], m: usize, limit: usize) -> usize
-    requires { ⌜ Counted (now image) c × (limit ≤ treeOf (now image) .nodes) × Marked (treeOf (now image)) (treeOf (now image) .mountRoot m) (treeOf (now image) .nodes) (now marks) ⌝ }
-    ensures { λ r. ⌜ r ≡ limitOf (keepsIn (treeOf (now (image .entry))) m) limit ⌝ }
+fn first_failing(image: &[u8], c: Counts, near: &[u16], from: usize) -> Search
+    requires { ⌜ Counted (now image) c × NodesHold (treeOf (now image)) × Filled (treeOf (now image)) (treeOf (now image) .nodes) (now near) × (from ≤ treeOf (now image) .nodes) ⌝ }
+    ensures { λ r. ⌜ r ≡ searchOf (badFrom (treeOf (now (image .entry))) from) ⌝ }
 {
-    let mut n = 0;
-    while n < limit {
-        if leads_outside(image, c, marks, m, n) {
-            return n;
+    let end = c.nodes;
+    let mut n = from;
+    while n < end {
+        if !target_holds(image, c, near, n) {
+            return Search::At(n);
         }
         n += 1;
     }
-    n
-}
-
-// The same, with the marks made for it. A mount that is not noted has no links to test.
-fn first_outside_mount(
-    image: &[u8],
-    c: Counts,
-    noted: &[u8],
-    marks: &mut [u8],
-    m: usize,
-    limit: usize,
-) -> usize
-    requires { ⌜ Counted (now image) c × NodesHold (treeOf (now image)) × (treeOf (now image) .nodes ≤ length (now marks)) × (m < treeOf (now image) .mounts) × (limit ≤ treeOf (now image) .nodes) × Noted (treeOf (now image)) limit (now noted) ⌝ }
-    ensures { λ r. ⌜ (r ≡ limitOf (keepsIn (treeOf (now (image .entry))) m) limit) × (length (now (marks .exit)) ≡ length (now (marks .entry))) ⌝ }
-{
-    if noted[m] != 1 {
-        return limit;
-    }
-    mark_under(image, c, mount_root(image, c, m), marks);
-    first_outside(image, c, marks, m, limit)
-}
-
-// The lowest node that breaks the rule, given the lowest whose record alone does: each mount in turn may lower it.
-fn first_failing(image: &[u8], c: Counts, noted: &[u8], dangling: usize) -> usize
-    requires { ⌜ Counted (now image) c × NodesHold (treeOf (now image)) × (dangling ≡ limitOf (keepsBelow (treeOf (now image)) 0) (treeOf (now image) .nodes)) × Noted (treeOf (now image)) dangling (now noted) ⌝ }
-    ensures { λ r. ⌜ r ≡ limitOf (magicTargetHolds (treeOf (now (image .entry)))) (treeOf (now (image .entry)) .nodes) ⌝ }
-{
-    let mut marks = [0u8; NODES];
-    let end = c.mounts;
-    let mut limit = dangling;
-    let mut m = 0;
-    while m < end {
-        limit = first_outside_mount(image, c, noted, &mut marks, m, limit);
-        m += 1;
-    }
-    limit
-}
-
-// A limit below the number of nodes is a node that was found.
-fn found(limit: usize, nodes: usize) -> Search
-    ensures { λ r. ⌜ r ≡ searchOf (below limit nodes) ⌝ }
-{
-    if limit < nodes {
-        return Search::At(limit);
-    }
     Search::Nowhere
+}
+
+fn first_bad_from(image: &[u8], c: Counts, from: usize) -> Search
+    requires { ⌜ Counted (now image) c × NodesHold (treeOf (now image)) × MountsHold (treeOf (now image)) × (from ≤ treeOf (now image) .nodes) ⌝ }
+    ensures { λ r. ⌜ r ≡ searchOf (badFrom (treeOf (now (image .entry))) from) ⌝ }
+{
+    let mut near = [0u16; NODES];
+    note_roots(image, c, &mut near);
+    pass_down(image, c, &mut near);
+    first_failing(image, c, &near, from)
 }
 
 // The lowest node whose magic link has a bad target.
@@ -203,10 +189,9 @@ pub fn first_bad_target(image: &[u8], c: Counts) -> Search
     requires { ⌜ Counted (now image) c × NodesHold (treeOf (now image)) × MountsHold (treeOf (now image)) ⌝ }
     ensures { λ r. ⌜ r ≡ searchOf (rule7 (treeOf (now (image .entry)))) ⌝ }
 {
-    let mut noted = [0u8; MOUNTS];
-    let dangling = first_dangling(image, c, &mut noted);
-    if holds_byte(&noted, 1) {
-        return found(first_failing(image, c, &noted, dangling), c.nodes);
+    let from = first_unsettled(image, c);
+    if c.nodes <= from {
+        return Search::Nowhere;
     }
-    found(dangling, c.nodes)
+    first_bad_from(image, c, from)
 }

@@ -1,33 +1,20 @@
-use borrow.Author.Needs.{needs}
-use Prim.Native.Nat.{ℕ, zero, suc, _+_, _-_, _*_, _^_, _≤_, _<_}
-use mathlib.Core.Bool.{Bool, true, false, not, _&&_, _||_, and-false, and-true}
-use mathlib.Core.Logic.{⊎-elim}
-use mathlib.Core.Option.{some, none}
-use mathlib.Core.Path.{_≡_, refl, ap, ap₂, _∙_, sym, subst}
+use Prim.Native.Nat.{ℕ, _+_, _-_, _≤_, _<_}
+use mathlib.Core.Bool.{true, not}
+use mathlib.Core.Path.{_≡_, ap, ap₂, _∙_, sym, subst}
 use native.Mathlib.Nat.{lt-irrefl}
 use native.Mathlib.Omega.{arith}
-use borrow.Author.Tests.{eq-eqb, ne-eqb, lt-ltb, le-ltb, le-leb, lt-leb, not-true, not-false}
-use lib.Dec.{eqb, ltb}
-use lib.ListN.{length, drop, getD}
+use borrow.Author.Tests.{not-false}
 use denote.Ref.{now}
-use Rattle.model.specs.Bytes.{find, firstFailing, before, contains, orElse}
-use Rattle.model.specs.Tree.{treeOf, isDirectory}
-use Rattle.model.specs.TableCheck.{countsBefore, directoryCount, nameHolds, ascends, standsInParent, entryHolds, rule5}
-use Rattle.theorems.proofs.Acceptance.{name-holds-facts, name-whole, entries-inside, directory-below, directory-kind, first-sum, counts-next}
-use Rattle.theorems.proofs.ByteLaws.{find-here, find-on, find-done, find-append}
-use Rattle.theorems.proofs.EntryLaws.{Held, first-ascends, later-ascends, directory-stands, other-stands, is-directory, not-directory}
+use Rattle.model.specs.Bytes.{before}
+use Rattle.model.specs.Tree.{treeOf}
+use Rattle.model.specs.TableCheck.{nameHolds, entryHolds}
+use Rattle.theorems.proofs.Acceptance.{directory-below}
+use Rattle.theorems.proofs.ByteLaws.{find-here, find-on, find-done}
 use Rattle.image.specs.Searches.{searchOf}
-use Rattle.table_entries.specs.Ranges.{badIn, badOf}
-use Rattle.image.proofs.SearchLaws.{search-at, search-nowhere}
-use Rattle.table_entries.proofs.RangeLaws.{entry-name, counts-fit, node-step, rule5-start}
-use Rattle.table_entries.proofs.NameLaws.{forbids, forbids-hit, forbids-miss, forbids-all, dots, dots-other, dots-one, dots-long, dots-two, name-test}
+use Rattle.table_entries.specs.Ranges.{badIn}
+use Rattle.table_entries.proofs.RangeLaws.{entry-name}
 use Rattle.table_entries.proofs.bad_in_directory.Statement.{statement}
 use Rattle.table_entries.proofs.bad_in_directory.Tie as tie
-use Rattle.table_entries.proofs.bad_in_directory.Reads as reads
-use Rattle.table_entries.proofs.bad_in_directory.Lts as lts
-use Rattle.image.proofs.records.node_count.Reads as node-count-reads
-use Rattle.image.proofs.records.node_first.Reads as node-first-reads
-use Rattle.table_entries.proofs.entry_holds.Reads as entry-holds-reads
 
 abbrev Inv-loop : tie.InvT-loop
 Inv-loop image c text n first end e₀ e = (first ≡ treeOf image .first n) × (end ≡ first + treeOf image .count n) × (first ≤ e) × (e ≤ end)
@@ -36,19 +23,15 @@ Inv-loop image c text n first end e₀ e = (first ≡ treeOf image .first n) × 
 abbrev μ-loop : tie.MeasureT-loop
 μ-loop image c text n first end e₀ e = end - e
 
--- src/lib.rt:72:9
 node-first-requires : tie.Need-node-first-requires Inv-loop μ-loop
 node-first-requires c κs = (c .before .pre .0 .sized, directory-below (treeOf (now (c .before .args .image))) (c .before .pre .1) (c .before .args .n) (c .before .pre .2))
 
--- src/lib.rt:73:23
 node-count-requires : tie.Need-node-count-requires Inv-loop μ-loop
 node-count-requires c κs = (c .before .before .pre .0 .sized, directory-below (treeOf (now (c .before .before .args .image))) (c .before .before .pre .1) (c .before .before .args .n) (c .before .before .pre .2))
 
--- src/lib.rt:73:15
 add-end : tie.Need-add-end Inv-loop μ-loop
 add-end c = omega arith
 
--- src/lib.rt:75:5
 loop-holds : tie.Need-loop-holds Inv-loop μ-loop
 loop-holds c =
     let s = now (c .before .before .before .args .image) in
@@ -56,24 +39,19 @@ loop-holds c =
     let k : c .before .node-first .result + c .node-count .result - c .before .node-first .result ≡ treeOf s .count (c .before .before .before .args .n) = omega (arith, c .node-count .ensures .0) in
     (f, omega (arith, c .node-count .ensures .0), omega arith, omega arith, (λ l. absurd (lt-irrefl _ l)), sym (ap₂ (badIn (treeOf s)) f k))
 
--- src/lib.rt:76:13
 entry-holds-requires : tie.Need-entry-holds-requires Inv-loop μ-loop
 entry-holds-requires c κs =
     (c .before .before .before .before .before .pre .0, c .before .before .before .before .before .pre .1, record { directory = c .before .before .before .before .before .pre .2; from = omega arith; below = omega arith }, c .before .loop .inv .0, c .before .before .before .before .before .pre .3, c .before .loop .inv .4)
 
--- src/lib.rt:77:13
 returns : tie.Need-returns Inv-loop μ-loop
 returns c = sym (ap searchOf (c .before .before .before .loop .inv .5 ∙ find-here (λ k. not (entryHolds (treeOf (now (c .before .before .before .before .before .before .before .args .image))) k)) (c .before .before .before .loop .e) _ (c .before .before .loop-test .taken) (ap not (sym (c .before .entry-holds .ensures)) ∙ c .if1 .taken)))
 
--- src/lib.rt:79:9
 add-e : tie.Need-add-e Inv-loop μ-loop
 add-e c = omega arith
 
--- src/lib.rt:75:5
 loop-less : tie.Need-loop-less Inv-loop μ-loop
 loop-less c = omega arith
 
--- src/lib.rt:75:5
 loop-again : tie.Need-loop-again Inv-loop μ-loop
 loop-again c =
     let t = treeOf (now (c .before .before .before .before .before .before .before .args .image)) in
@@ -81,7 +59,6 @@ loop-again c =
     let h = entry-name t (c .before .before .before .loop .e) (sym (c .before .entry-holds .ensures) ∙ not-false _ (c .if1 .left)) in
     (c .before .before .before .loop .inv .0, c .before .before .before .loop .inv .1, omega arith, omega arith, (λ l. subst (λ (k : ℕ). nameHolds t k ≡ true) i h), c .before .before .before .loop .inv .5 ∙ find-on (λ k. not (entryHolds t k)) (c .before .before .before .loop .e) _ (c .before .before .loop-test .taken) (ap not (sym (c .before .entry-holds .ensures)) ∙ c .if1 .left))
 
--- src/lib.rt:68:1
 returns-2 : tie.Need-returns-2 Inv-loop μ-loop
 returns-2 c = sym (ap searchOf (c .before .loop .inv .5 ∙ find-done (λ k. not (entryHolds (treeOf (now (c .before .before .before .before .before .args .image))) k)) (c .before .loop .e) _ (c .loop-test .left)))
 

@@ -1,30 +1,19 @@
-use borrow.Author.Needs.{needs}
-use Prim.Native.Nat.{ℕ, zero, suc, _+_, _-_, _*_, _^_, _≤_, _<_}
-use mathlib.Core.Bool.{Bool, true, false, not, _&&_, _||_, and-false, and-true}
-use mathlib.Core.Logic.{⊎-elim}
+use Prim.Native.Nat.{_+_, _-_, _≤_}
+use mathlib.Core.Bool.{not}
 use mathlib.Core.Option.{some, none}
-use mathlib.Core.Path.{_≡_, refl, ap, ap₂, _∙_, sym, subst}
+use mathlib.Core.Path.{_≡_, ap, _∙_, sym}
 use native.Mathlib.Omega.{arith}
-use borrow.Author.Tests.{eq-eqb, ne-eqb, lt-ltb, le-ltb, le-leb, lt-leb, not-true, not-false}
-use lib.Dec.{eqb, ltb}
-use lib.ListN.{length, drop, getD}
 use denote.Ref.{now}
-use Rattle.model.specs.Bytes.{find, firstFailing, before, contains, orElse}
-use Rattle.model.specs.Tree.{treeOf, isDirectory}
-use Rattle.model.specs.TableCheck.{countsBefore, directoryCount, nameHolds, ascends, standsInParent, entryHolds, rule5}
-use Rattle.theorems.proofs.Acceptance.{name-holds-facts, name-whole, entries-inside, directory-below, directory-kind, first-sum, counts-next}
-use Rattle.theorems.proofs.ByteLaws.{find-here, find-on, find-done, find-append}
-use Rattle.theorems.proofs.EntryLaws.{Held, first-ascends, later-ascends, directory-stands, other-stands, is-directory, not-directory}
+use Rattle.model.specs.Bytes.{before}
+use Rattle.model.specs.Tree.{treeOf}
+use Rattle.model.specs.TableCheck.{countsBefore, entryHolds, rule5}
+use Rattle.theorems.proofs.ByteLaws.{find-done}
 use Rattle.image.specs.Searches.{searchOf}
 use Rattle.table_entries.specs.Ranges.{badIn, badOf}
 use Rattle.image.proofs.SearchLaws.{search-at, search-nowhere}
-use Rattle.table_entries.proofs.RangeLaws.{entry-name, counts-fit, node-step, rule5-start}
-use Rattle.table_entries.proofs.NameLaws.{forbids, forbids-hit, forbids-miss, forbids-all, dots, dots-other, dots-one, dots-long, dots-two, name-test}
+use Rattle.table_entries.proofs.RangeLaws.{node-step, rule5-start}
 use Rattle.table_entries.proofs.first_bad_entry.Statement.{statement}
 use Rattle.table_entries.proofs.first_bad_entry.Tie as tie
-use Rattle.table_entries.proofs.first_bad_entry.Reads as reads
-use Rattle.table_entries.proofs.first_bad_entry.Lts as lts
-use Rattle.table_entries.proofs.bad_in_node.Reads as bad-in-node-reads
 
 abbrev Inv-loop : tie.InvT-loop
 Inv-loop image c text end n₀ n = (end ≡ treeOf image .nodes) × (n ≤ end)
@@ -33,19 +22,15 @@ Inv-loop image c text end n₀ n = (end ≡ treeOf image .nodes) × (n ≤ end)
 abbrev μ-loop : tie.MeasureT-loop
 μ-loop image c text end n₀ n = end - n
 
--- src/lib.rt:100:5
 loop-holds : tie.Need-loop-holds Inv-loop μ-loop
 loop-holds c = (c .before .pre .0 .nodes-are, omega arith, rule5-start (treeOf (now (c .before .args .image))))
 
--- src/lib.rt:101:13
 bad-in-node-requires : tie.Need-bad-in-node-requires Inv-loop μ-loop
 bad-in-node-requires c κs = (c .before .before .before .pre .0, c .before .before .before .pre .1, omega arith, c .before .before .before .pre .2)
 
--- src/lib.rt:102:27
 enum-known-found : tie.Need-enum-known-found Inv-loop μ-loop
 enum-known-found c = omega arith
 
--- src/lib.rt:103:13
 returns : tie.Need-returns Inv-loop μ-loop
 returns c =
     let t = treeOf (now (c .before .before .before .before .before .before .before .args .image)) in
@@ -57,24 +42,31 @@ returns c =
 enum-told : tie.Need-enum-told Inv-loop μ-loop
 enum-told c = omega arith
 
--- src/lib.rt:105:9
+ends-entries-requires : tie.Need-ends-entries-requires Inv-loop μ-loop
+ends-entries-requires c κs = (c .before .before .before .before .before .before .pre .0, c .before .before .before .before .before .before .pre .1, omega arith)
+
+returns-2 : tie.Need-returns-2 Inv-loop μ-loop
+returns-2 c =
+    let t = treeOf (now (c .before .before .before .before .before .before .before .before .args .image)) in
+    let r = search-nowhere (badOf t (c .before .before .before .before .before .before .loop .n)) (sym (c .before .before .before .before .bad-in-node .ensures) ∙ c .before .before .enum-told .given .1) in
+    let e : countsBefore t (c .before .before .before .before .before .before .loop .n + 1) ≡ t .entries = c .before .ends-entries .ensures (c .if1 .taken) in
+    let k : rule5 t ≡ none = c .before .before .before .before .before .before .loop .inv .2 ∙ node-step t (c .before .before .before .before .before .before .before .before .pre .1) (c .before .before .before .before .before .before .loop .n) (omega arith) ∙ rw r (find-done (λ k. not (entryHolds t k)) (countsBefore t (c .before .before .before .before .before .before .loop .n + 1)) (t .entries) (omega arith)) in
+    sym (ap searchOf k)
+
 add-n : tie.Need-add-n Inv-loop μ-loop
 add-n c = omega arith
 
--- src/lib.rt:100:5
 loop-less : tie.Need-loop-less Inv-loop μ-loop
 loop-less c = omega arith
 
--- src/lib.rt:100:5
 loop-again : tie.Need-loop-again Inv-loop μ-loop
 loop-again c =
-    let t = treeOf (now (c .before .before .before .before .before .before .args .image)) in
-    let r = search-nowhere (badOf t (c .before .before .before .before .loop .n)) (sym (c .before .before .bad-in-node .ensures) ∙ c .enum-told .given .1) in
-    (c .before .before .before .before .loop .inv .0, omega arith, c .before .before .before .before .loop .inv .2 ∙ node-step t (c .before .before .before .before .before .before .pre .1) (c .before .before .before .before .loop .n) (omega arith) ∙ rw r)
+    let t = treeOf (now (c .before .before .before .before .before .before .before .before .args .image)) in
+    let r = search-nowhere (badOf t (c .before .before .before .before .before .before .loop .n)) (sym (c .before .before .before .before .bad-in-node .ensures) ∙ c .before .before .enum-told .given .1) in
+    (c .before .before .before .before .before .before .loop .inv .0, omega arith, c .before .before .before .before .before .before .loop .inv .2 ∙ node-step t (c .before .before .before .before .before .before .before .before .pre .1) (c .before .before .before .before .before .before .loop .n) (omega arith) ∙ rw r)
 
--- src/lib.rt:94:1
-returns-2 : tie.Need-returns-2 Inv-loop μ-loop
-returns-2 c =
+returns-3 : tie.Need-returns-3 Inv-loop μ-loop
+returns-3 c =
     let t = treeOf (now (c .before .before .before .args .image)) in
     let n : c .before .loop .n ≡ t .nodes = omega arith in
     let e : countsBefore t (c .before .loop .n) ≡ t .entries = ap (countsBefore t) n ∙ c .before .before .before .pre .1 .counts-sum in
@@ -91,7 +83,9 @@ first-bad-entry-spec =
     enum-known-found
     returns
     enum-told
+    ends-entries-requires
+    returns-2
     add-n
     loop-less
     loop-again
-    returns-2)
+    returns-3)

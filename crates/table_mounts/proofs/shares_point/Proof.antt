@@ -1,23 +1,16 @@
-use borrow.Author.Needs.{needs}
-use Prim.Native.Nat.{ℕ, zero, suc, _+_, _-_, _*_, _^_, _≤_, _<_}
-use mathlib.Core.Bool.{Bool, true, false, not, _&&_, and-false, and-true}
-use mathlib.Core.Option.{some, none}
-use mathlib.Core.Path.{_≡_, refl, ap, ap₂, _∙_, sym, subst}
+use Prim.Native.Nat.{_+_, _-_, _*_, _^_, _≤_, _<_}
+use mathlib.Core.Bool.{_&&_}
+use mathlib.Core.Path.{_≡_, refl, ap, _∙_, sym}
 use native.Mathlib.Omega.{arith}
-use borrow.Author.Tests.{eq-eqb, ne-eqb, lt-ltb, le-ltb, le-leb, lt-leb, not-true, not-false}
 use lib.Dec.{eqb}
 use denote.Ref.{now}
-use Rattle.model.specs.Bytes.{find, firstFailing, isSome}
-use Rattle.model.specs.Tree.{treeOf, isDirectory, under}
-use Rattle.model.specs.TableCheck.{pointHolds, sharesPoint, hangs, mountHolds, rule6}
+use Rattle.model.specs.Bytes.{find, isSome}
+use Rattle.model.specs.Tree.{treeOf}
+use Rattle.model.specs.TableCheck.{sharesPoint}
 use Rattle.theorems.proofs.ByteLaws.{find-here, find-on, find-done}
 use Rattle.theorems.proofs.StringLaws.{packed-same, packed-other}
-use Rattle.image.specs.Searches.{searchOf}
 use Rattle.table_mounts.proofs.shares_point.Statement.{statement}
 use Rattle.table_mounts.proofs.shares_point.Tie as tie
-use Rattle.table_mounts.proofs.shares_point.Reads as reads
-use Rattle.table_mounts.proofs.shares_point.Lts as lts
-use Rattle.image.proofs.records.packed_point.Reads as packed-point-reads
 
 abbrev Inv-loop : tie.InvT-loop
 Inv-loop image c m wanted k₀ k = (1 ≤ k) × (wanted ≡ treeOf image .mountParent m + 65536 * treeOf image .mountPoint m) × (treeOf image .mountParent m < 2 ^ 16)
@@ -26,39 +19,31 @@ Inv-loop image c m wanted k₀ k = (1 ≤ k) × (wanted ≡ treeOf image .mountP
 abbrev μ-loop : tie.MeasureT-loop
 μ-loop image c m wanted k₀ k = m - k
 
--- src/lib.rt:39:9
 packed-point-requires : tie.Need-packed-point-requires Inv-loop μ-loop
 packed-point-requires c κs = (c .before .pre .0, omega arith)
 
--- src/lib.rt:41:5
 loop-holds : tie.Need-loop-holds Inv-loop μ-loop
 unfolding sharesPoint
 loop-holds c = (omega arith, c .packed-point .ensures .0, c .packed-point .ensures .1, refl)
 
--- src/lib.rt:42:12
 packed-point-requires-2 : tie.Need-packed-point-requires-2 Inv-loop μ-loop
 packed-point-requires-2 c κs = (c .before .before .before .before .pre .0, omega arith)
 
--- src/lib.rt:43:13
 returns : tie.Need-returns Inv-loop μ-loop
 returns c =
     let t = treeOf (now (c .before .before .before .before .before .before .args .image)) in
     sym (c .before .before .before .loop .inv .3 ∙ ap isSome (find-here _ (c .before .before .before .loop .k) (c .before .before .before .before .before .before .args .m) (c .before .before .loop-test .taken) (packed-same _ _ _ _ (c .before .packed-point2 .ensures .1) (c .before .before .before .loop .inv .2) (sym (c .before .packed-point2 .ensures .0) ∙ c .if1 .taken ∙ c .before .before .before .loop .inv .1))))
 
--- src/lib.rt:45:9
 add-k : tie.Need-add-k Inv-loop μ-loop
 add-k c = omega arith
 
--- src/lib.rt:41:5
 loop-less : tie.Need-loop-less Inv-loop μ-loop
 loop-less c = omega arith
 
--- src/lib.rt:41:5
 loop-again : tie.Need-loop-again Inv-loop μ-loop
 loop-again c =
     (omega arith, c .before .before .before .loop .inv .1, c .before .before .before .loop .inv .2, c .before .before .before .loop .inv .3 ∙ ap isSome (find-on _ (c .before .before .before .loop .k) (c .before .before .before .before .before .before .args .m) (c .before .before .loop-test .taken) (packed-other _ _ _ _ (λ e. c .if1 .left (c .before .packed-point2 .ensures .0 ∙ e ∙ sym (c .before .before .before .loop .inv .1))))))
 
--- src/lib.rt:35:1
 returns-2 : tie.Need-returns-2 Inv-loop μ-loop
 returns-2 c = sym (c .before .loop .inv .3 ∙ ap isSome (find-done _ (c .before .loop .k) (c .before .before .before .before .args .m) (c .loop-test .left)))
 

@@ -1,26 +1,20 @@
 -- `table_nodes::first_bad_node` meets its contract. The loop's invariant: the sum is that of the directories passed, and the lowest
 -- failing node is the lowest from `n` on. Assumes nothing.
-use Prim.Native.Nat.{ℕ, _+_, _-_, _*_, _≤_, _<_}
-use mathlib.Core.Bool.{Bool, true, false, not, _&&_, and-false}
-use mathlib.Core.Path.{_≡_, refl, ap, ap₂, _∙_, sym, subst}
+use Prim.Native.Nat.{_+_, _-_, _*_, _≤_}
+use mathlib.Core.Bool.{not}
+use mathlib.Core.Path.{_≡_, refl, ap, ap₂, _∙_, sym}
 use native.Mathlib.Omega.{arith}
-use borrow.Author.Tests.{eq-eqb, ne-eqb, lt-ltb, le-ltb, le-leb, lt-leb, not-true, not-false}
-use lib.Dec.{eqb}
+use borrow.Author.Tests.{eq-eqb, ne-eqb}
 use denote.Ref.{now}
 use Rattle.theorems.proofs.ByteLaws.{find-here, find-on, find-done}
 use Rattle.image.specs.Searches.{searchOf}
 use mathlib.Core.Option.{some, none}
 use native.Mathlib.Numerals.{add-one}
 use Rattle.model.specs.Bytes.{find, firstFailing}
-use Rattle.model.specs.Tree.{treeOf, isDirectory}
-use Rattle.model.specs.TableCheck.{countsBefore, directoryCount, directoryHolds, fileHolds, symlinkHolds, magicHolds, nodeHolds, unless, rule4}
+use Rattle.model.specs.Tree.{treeOf}
+use Rattle.model.specs.TableCheck.{countsBefore, nodeHolds, rule4}
 use Rattle.table_nodes.proofs.first_bad_node.Statement.{statement}
 use Rattle.table_nodes.proofs.first_bad_node.Tie as tie
-use Rattle.table_nodes.proofs.first_bad_node.Reads as reads
-use Rattle.table_nodes.proofs.first_bad_node.Lts as lts
-use Rattle.image.proofs.records.node_kind.Reads as node-kind-reads
-use Rattle.table_nodes.proofs.directory_count.Reads as directory-count-reads
-use Rattle.table_nodes.proofs.node_holds.Reads as node-holds-reads
 
 abbrev Inv-loop : tie.InvT-loop
 Inv-loop image c text end sum₀ n₀ sum n = (end ≡ treeOf image .nodes) × (n ≤ end) × (sum ≡ countsBefore (treeOf image) n) × (sum ≤ n * 4294967296)
@@ -29,7 +23,6 @@ Inv-loop image c text end sum₀ n₀ sum n = (end ≡ treeOf image .nodes) × (
 abbrev μ-loop : tie.MeasureT-loop
 μ-loop image c text end sum₀ n₀ sum n = end - n
 
--- src/lib.rt:106:5
 loop-holds : tie.Need-loop-holds Inv-loop μ-loop
 unfolding firstFailing countsBefore
 loop-holds c =
@@ -38,15 +31,12 @@ loop-holds c =
     let k : c .before .args .c .nodes - 0 ≡ treeOf s .nodes = omega (arith, e) in
     (e, omega arith, refl, omega arith, rw k)
 
--- src/lib.rt:107:13
 node-kind-requires : tie.Need-node-kind-requires Inv-loop μ-loop
 node-kind-requires c κs = (c .before .before .before .pre .0 .sized, omega arith)
 
--- src/lib.rt:108:13
 node-holds-requires : tie.Need-node-holds-requires Inv-loop μ-loop
 node-holds-requires c κs = (c .before .before .before .before .pre .0, omega arith, c .before .before .before .before .pre .1, c .node-kind .ensures .0, c .before .before .loop .inv .2)
 
--- src/lib.rt:109:13
 returns : tie.Need-returns Inv-loop μ-loop
 unfolding rule4
 returns c =
@@ -54,30 +44,24 @@ returns c =
     let r : rule4 t ≡ some (c .before .before .before .before .loop .n) = rw (c .before .before .before .before .loop .inv .4 ∙ find-here (λ k. not (nodeHolds t k)) (c .before .before .before .before .loop .n) _ (c .before .before .before .loop-test .taken) (ap not (sym (c .before .node-holds .ensures)) ∙ c .if1 .taken)) in
     sym (ap searchOf r)
 
--- src/lib.rt:111:16
 directory-count-requires : tie.Need-directory-count-requires Inv-loop μ-loop
 directory-count-requires c κs = (c .before .before .before .before .before .before .pre .0 .sized, omega arith, c .before .before .node-kind .ensures .0)
 
--- src/lib.rt:111:9
 add-sum : tie.Need-add-sum Inv-loop μ-loop
 add-sum c = omega arith
 
--- src/lib.rt:112:9
 add-n : tie.Need-add-n Inv-loop μ-loop
 add-n c = omega arith
 
--- src/lib.rt:106:5
 loop-less : tie.Need-loop-less Inv-loop μ-loop
 loop-less c = omega arith
 
--- src/lib.rt:106:5
 loop-again : tie.Need-loop-again Inv-loop μ-loop
 unfolding countsBefore
 loop-again c =
     let t = treeOf (now (c .before .before .before .before .before .before .before .args .image)) in
     (c .before .before .before .before .before .loop .inv .0, omega arith, rw (add-one (c .before .before .before .before .before .loop .n)) (ap₂ _+_ (c .before .before .before .before .before .loop .inv .2) (c .directory-count .ensures .0)), omega arith, c .before .before .before .before .before .loop .inv .4 ∙ find-on (λ k. not (nodeHolds t k)) (c .before .before .before .before .before .loop .n) _ (c .before .before .before .before .loop-test .taken) (ap not (sym (c .before .before .node-holds .ensures)) ∙ c .before .if1 .left))
 
--- src/lib.rt:115:9
 returns-2 : tie.Need-returns-2 Inv-loop μ-loop
 unfolding rule4
 returns-2 c =
@@ -87,7 +71,6 @@ returns-2 c =
     let r : rule4 t ≡ some (c .before .before .before .loop .n) = rw (c .before .before .before .loop .inv .4 ∙ find-done (λ k. not (nodeHolds t k)) (c .before .before .before .loop .n) _ (c .before .before .loop-test .left), ne-eqb _ _ sum) (ap some (sym n)) in
     sym (ap searchOf r)
 
--- src/lib.rt:99:1
 returns-3 : tie.Need-returns-3 Inv-loop μ-loop
 unfolding rule4
 returns-3 c =

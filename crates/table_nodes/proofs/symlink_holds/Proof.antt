@@ -1,69 +1,50 @@
 use borrow.Author.Needs.{needs}
-use Prim.Native.Nat.{ℕ, _+_, _-_, _*_, _≤_, _<_}
-use mathlib.Core.Bool.{Bool, true, false, not, _&&_, and-false}
-use mathlib.Core.Path.{_≡_, refl, ap, ap₂, _∙_, sym, subst}
+use Prim.Native.Nat.{_+_}
+use mathlib.Core.Bool.{not, and-false}
+use mathlib.Core.Path.{ap, _∙_, sym}
 use native.Mathlib.Omega.{arith}
-use borrow.Author.Tests.{eq-eqb, ne-eqb, lt-ltb, le-ltb, le-leb, lt-leb}
-use lib.Dec.{eqb}
+use borrow.Author.Tests.{eq-eqb, ne-eqb, le-leb, lt-leb}
 use denote.Ref.{now}
 use Rattle.model.specs.Bytes.{contains}
-use Rattle.model.specs.Tree.{treeOf, isDirectory}
-use Rattle.model.specs.TableCheck.{countsBefore, directoryCount, directoryHolds, fileHolds, symlinkHolds, magicHolds, nodeHolds}
+use Rattle.model.specs.Tree.{treeOf}
+use Rattle.model.specs.TableCheck.{symlinkHolds}
 use Rattle.table_nodes.proofs.symlink_holds.Statement.{statement}
 use Rattle.table_nodes.proofs.symlink_holds.Tie as tie
-use Rattle.table_nodes.proofs.symlink_holds.Reads as reads
-use Rattle.table_nodes.proofs.symlink_holds.Lts as lts
-use Rattle.image.proofs.records.node_count.Reads as node-count-reads
-use Rattle.image.proofs.records.node_first.Reads as node-first-reads
-use Rattle.image.proofs.records.node_parent.Reads as node-parent-reads
-use Rattle.image.proofs.strings.holds_byte.Reads as holds-byte-reads
-use Rattle.image.proofs.texts.body.Reads as body-reads
 
--- src/lib.rt:50:9
 node-count-requires : tie.Need-node-count-requires
 node-count-requires c κs = search needs
 
--- src/lib.rt:51:8
 node-parent-requires : tie.Need-node-parent-requires
 node-parent-requires c κs = search needs
 
--- src/lib.rt:52:9
 returns : tie.Need-returns
 unfolding symlinkHolds
 returns c = let t = treeOf (now (c .before .before .before .before .args .image)) in simp (ne-eqb (t .parent (c .before .before .before .before .args .n)) 0 (λ e. c .if1 .taken (c .before .node-parent .ensures .0 ∙ e)))
 
--- src/lib.rt:54:15
 node-first-requires : tie.Need-node-first-requires
 node-first-requires c κs = search needs
 
--- src/lib.rt:54:15
 add-if2 : tie.Need-add-if2
 add-if2 c = search needs
 
--- src/lib.rt:55:9
 returns-2 : tie.Need-returns-2
 unfolding symlinkHolds
 returns-2 c = let t = treeOf (now (c .before .before .before .before .before .before .args .image)) in simp (lt-leb (t .first (c .before .before .before .before .before .before .args .n) + t .count (c .before .before .before .before .before .before .args .n)) (t .textLength) (omega arith), and-false)
 
--- src/lib.rt:58:9
 returns-3 : tie.Need-returns-3
 unfolding symlinkHolds
 returns-3 c = let t = treeOf (now (c .before .before .before .before .before .before .before .args .image)) in simp (lt-leb 1 (t .count (c .before .before .before .before .before .before .before .args .n)) (omega arith), and-false)
 
--- src/lib.rt:61:9
 returns-4 : tie.Need-returns-4
 unfolding symlinkHolds
 returns-4 c = let t = treeOf (now (c .before .before .before .before .before .before .before .before .args .image)) in simp (lt-leb (t .count (c .before .before .before .before .before .before .before .before .args .n)) 4095 (omega arith), and-false)
 
--- src/lib.rt:63:17
 body-requires : tie.Need-body-requires
 body-requires c κs = search needs
 
--- src/lib.rt:63:6
 holds-byte-requires : tie.Need-holds-byte-requires
 holds-byte-requires c κs = search needs
 
--- src/lib.rt:46:1
 returns-5 : tie.Need-returns-5
 unfolding symlinkHolds
 returns-5 c =

@@ -1,59 +1,43 @@
--- `table_targets::first_failing` meets its contract. The loop's invariant: the limit is the lowest node that breaks the rule as far as
--- the mounts below m tell. Assumes nothing.
-use Prim.Native.Nat.{ℕ, _-_, _≤_}
+-- `table_targets::first_failing` meets its contract. The loop's invariant: every node passed, from `from` on, keeps the rule. Assumes nothing.
+use Prim.Native.Nat.{_-_, _≤_}
+use mathlib.Core.Bool.{not}
 use mathlib.Core.Path.{_≡_, refl, sym, ap, _∙_}
 use native.Mathlib.Omega.{arith}
 use denote.Ref.{now}
-use lib.ListN.{length}
 use Rattle.model.specs.Tree.{treeOf}
-use Rattle.table_targets.specs.Targets.{keepsBelow, keepsIn, limitOf}
-use Rattle.table_targets.proofs.LimitLaws.{limit-lowest}
-use Rattle.table_targets.proofs.TargetLaws.{limit-more, limit-all, noted-less}
+use Rattle.model.specs.TableCheck.{magicTargetHolds}
+use Rattle.theorems.proofs.ByteLaws.{find-here, find-on, find-done}
+use Rattle.image.specs.Searches.{searchOf}
+use Rattle.table_targets.specs.Targets.{badFrom}
 use Rattle.table_targets.proofs.first_failing.Statement.{statement}
 use Rattle.table_targets.proofs.first_failing.Tie as tie
 
 abbrev Inv-loop : tie.InvT-loop
-Inv-loop image c noted dangling marks₀ end limit₀ m₀ marks limit m = (end ≡ treeOf image .mounts) × (m ≤ end) × (limit ≡ limitOf (keepsBelow (treeOf image) m) (treeOf image .nodes)) × (limit ≤ dangling) × (dangling ≤ treeOf image .nodes) × (length marks ≡ length marks₀)
+Inv-loop image c near from end n₀ n = (end ≡ treeOf image .nodes) × (n ≤ end) × (badFrom (treeOf image) from ≡ badFrom (treeOf image) n)
 
 abbrev μ-loop : tie.MeasureT-loop
-μ-loop image c noted dangling marks₀ end limit₀ m₀ marks limit m = end - m
+μ-loop image c near from end n₀ n = end - n
 
 loop-holds : tie.Need-loop-holds Inv-loop μ-loop
-loop-holds c =
-    let t = treeOf (now (c .before .before .args .image)) in
-    (c .before .before .pre .0 .mounts-are, omega arith, c .before .before .pre .2, omega arith, omega (arith, c .before .before .pre .2, limit-lowest (keepsBelow t 0) (t .nodes) .within), refl)
+loop-holds c = (c .before .before .pre .0 .nodes-are, omega (arith, c .before .before .pre .0 .nodes-are), refl)
 
-slice-aggregate-first-outside-mount : tie.Need-slice-aggregate-first-outside-mount Inv-loop μ-loop
-slice-aggregate-first-outside-mount c = sym (c .before .before .loop .inv .5)
+target-holds-requires : tie.Need-target-holds-requires Inv-loop μ-loop
+target-holds-requires c κs = (c .before .before .before .before .pre .0, c .before .before .before .before .pre .1, c .before .before .before .before .pre .2, omega arith)
 
-first-outside-mount-requires : tie.Need-first-outside-mount-requires Inv-loop μ-loop
-first-outside-mount-requires c κs =
-    let t = treeOf (now (c .before .before .before .before .before .args .image)) in
-    (c .before .before .before .before .before .pre .0, c .before .before .before .before .before .pre .1, omega (arith, c .before .before .loop .inv .5, c .before .before .before .before .before .pre .0 .sized .few-nodes), omega arith, omega arith, noted-less t (c .before .before .before .before .before .args .dangling) _ (now (c .before .before .before .before .before .args .noted)) (omega arith) (c .before .before .before .before .before .pre .3))
+returns : tie.Need-returns Inv-loop μ-loop
+returns c = sym (ap searchOf (c .before .before .before .loop .inv .2 ∙ find-here (λ k. not (magicTargetHolds (treeOf (now (c .before .before .before .before .before .before .args .image))) k)) (c .before .before .before .loop .n) _ (omega arith) (ap not (sym (c .before .target-holds .ensures)) ∙ c .if1 .taken)))
 
-add-m : tie.Need-add-m Inv-loop μ-loop
-add-m c = omega arith
+add-n : tie.Need-add-n Inv-loop μ-loop
+add-n c = omega arith
 
 loop-less : tie.Need-loop-less Inv-loop μ-loop
 loop-less c = omega arith
 
 loop-again : tie.Need-loop-again Inv-loop μ-loop
-loop-again c =
-    let t = treeOf (now (c .before .before .before .before .before .before .before .args .image)) in
-    let is = c .before .first-outside-mount .ensures .0 in (
-      c .before .before .before .before .loop .inv .0,
-      omega arith,
-      is ∙ ap (limitOf (keepsIn t (c .before .before .before .before .loop .m))) (c .before .before .before .before .loop .inv .2) ∙ sym (limit-more t (c .before .before .before .before .loop .m)),
-      omega (arith, is, limit-lowest (keepsIn t (c .before .before .before .before .loop .m)) (c .before .before .before .before .loop .limit) .within),
-      c .before .before .before .before .loop .inv .4,
-      c .before .first-outside-mount .ensures .1 ∙ c .before .before .before .before .loop .inv .5,
-    )
+loop-again c = (c .before .before .before .loop .inv .0, omega arith, c .before .before .before .loop .inv .2 ∙ find-on (λ k. not (magicTargetHolds (treeOf (now (c .before .before .before .before .before .before .args .image))) k)) (c .before .before .before .loop .n) _ (omega arith) (ap not (sym (c .before .target-holds .ensures)) ∙ c .if1 .left))
 
-returns : tie.Need-returns Inv-loop μ-loop
-returns c =
-    let t = treeOf (now (c .before .before .before .before .args .image)) in
-    let all : c .before .loop .m ≡ t .mounts = omega arith in
-    c .before .loop .inv .2 ∙ ap (λ (m : ℕ). limitOf (keepsBelow t m) (t .nodes)) all ∙ sym (limit-all t)
+returns-2 : tie.Need-returns-2 Inv-loop μ-loop
+returns-2 c = sym (ap searchOf (c .before .loop .inv .2 ∙ find-done (λ k. not (magicTargetHolds (treeOf (now (c .before .before .before .before .args .image))) k)) (c .before .loop .n) _ (omega arith)))
 
 pub first-failing-spec : {M : Type 1} → statement M
 first-failing-spec =
@@ -62,9 +46,9 @@ first-failing-spec =
     Inv-loop
     μ-loop
     loop-holds
-    slice-aggregate-first-outside-mount
-    first-outside-mount-requires
-    add-m
+    target-holds-requires
+    returns
+    add-n
     loop-less
     loop-again
-    returns)
+    returns-2)

@@ -6,7 +6,7 @@ use native.Mathlib.Omega.{arith}
 use denote.Ref.{now}
 use Rattle.model.specs.Tree.{treeOf}
 use Rattle.table_targets.specs.declared.Lead.the-variants.{Into}
-use Rattle.table_targets.proofs.TargetLaws.{lead-other, lead-mount, lead-node, lead-directory, lead-file, lead-link}
+use Rattle.table_targets.proofs.LeadLaws.{lead-other, lead-mount, lead-node, lead-directory, lead-file, lead-link}
 use Rattle.table_targets.proofs.lead_of.Statement.{statement}
 use Rattle.table_targets.proofs.lead_of.Tie as tie
 
@@ -34,21 +34,23 @@ node-kind-requires-2 c κs = search needs
 returns-4 : tie.Need-returns-4
 returns-4 c =
     let t = treeOf (now (c .before .before .before .before .before .before .before .before .before .before .before .args .image)) in
-    let e : c .before .node-kind2 .result ≡ t .kind (t .count (c .before .before .before .before .before .before .before .before .before .before .before .args .n)) = c .before .node-kind2 .ensures .0 ∙ ap (λ (k : ℕ). t .kind k) (c .before .before .before .before .node-count .ensures .0) in
-    ap₂ Into (c .before .before .before .before .before .before .before .node-first .ensures .0) (c .before .before .before .before .node-count .ensures .0)
-    ∙ lead-directory t (c .before .before .before .before .before .before .before .before .before .before .before .args .n) (sym (c .before .before .before .before .before .before .before .before .before .node-kind .ensures .0) ∙ c .before .before .before .before .before .before .before .before .if1 .left) (omega (arith, c .before .before .before .before .before .before .before .node-first .ensures .0)) (omega (arith, c .before .before .before .before .node-count .ensures .0)) (omega (arith, e))
+    let n = c .before .before .before .before .before .before .before .before .before .before .before .args .n in
+    let e : c .before .node-kind2 .result ≡ t .kind (t .count n) = c .before .node-kind2 .ensures .0 ∙ ap (λ (k : ℕ). t .kind k) (c .before .before .before .before .node-count .ensures .0) in
+    ap₂ Into (c .before .before .before .before .before .before .before .node-first .ensures .0) (c .before .before .before .before .node-count .ensures .0) ∙ lead-directory t n (sym (c .before .before .before .before .before .before .before .before .before .node-kind .ensures .0) ∙ c .before .before .before .before .before .before .before .before .if1 .left) (omega (arith, c .before .before .before .before .before .before .before .node-first .ensures .0)) (omega (arith, c .before .before .before .before .node-count .ensures .0)) (sym e ∙ c .match .keys1)
 
 returns-5 : tie.Need-returns-5
 returns-5 c =
-    let t = treeOf (now (c .before .before .before .before .before .before .before .before .before .before .before .before .args .image)) in
-    let e : c .before .before .node-kind2 .result ≡ t .kind (t .count (c .before .before .before .before .before .before .before .before .before .before .before .before .args .n)) = c .before .before .node-kind2 .ensures .0 ∙ ap (λ (k : ℕ). t .kind k) (c .before .before .before .before .before .node-count .ensures .0) in
-    lead-file t (c .before .before .before .before .before .before .before .before .before .before .before .before .args .n) (sym (c .before .before .before .before .before .before .before .before .before .before .node-kind .ensures .0) ∙ c .before .before .before .before .before .before .before .before .before .if1 .left) (omega (arith, c .before .before .before .before .before .before .before .before .node-first .ensures .0)) (omega (arith, c .before .before .before .before .before .node-count .ensures .0)) (omega (arith, e))
+    let t = treeOf (now (c .before .before .before .before .before .before .before .before .before .before .before .args .image)) in
+    let n = c .before .before .before .before .before .before .before .before .before .before .before .args .n in
+    let e : c .before .node-kind2 .result ≡ t .kind (t .count n) = c .before .node-kind2 .ensures .0 ∙ ap (λ (k : ℕ). t .kind k) (c .before .before .before .before .node-count .ensures .0) in
+    lead-file t n (sym (c .before .before .before .before .before .before .before .before .before .node-kind .ensures .0) ∙ c .before .before .before .before .before .before .before .before .if1 .left) (omega (arith, c .before .before .before .before .before .before .before .node-first .ensures .0)) (omega (arith, c .before .before .before .before .node-count .ensures .0)) (sym e ∙ c .match .keys2)
 
 returns-6 : tie.Need-returns-6
 returns-6 c =
-    let t = treeOf (now (c .before .before .before .before .before .before .before .before .before .before .before .before .args .image)) in
-    let e : c .before .before .node-kind2 .result ≡ t .kind (t .count (c .before .before .before .before .before .before .before .before .before .before .before .before .args .n)) = c .before .before .node-kind2 .ensures .0 ∙ ap (λ (k : ℕ). t .kind k) (c .before .before .before .before .before .node-count .ensures .0) in
-    lead-link t (c .before .before .before .before .before .before .before .before .before .before .before .before .args .n) (sym (c .before .before .before .before .before .before .before .before .before .before .node-kind .ensures .0) ∙ c .before .before .before .before .before .before .before .before .before .if1 .left) (omega (arith, c .before .before .before .before .before .before .before .before .node-first .ensures .0)) (omega (arith, c .before .before .before .before .before .node-count .ensures .0)) (λ f. c .before .if4 .left (e ∙ f)) (λ f. c .if5 .left (e ∙ f))
+    let t = treeOf (now (c .before .before .before .before .before .before .before .before .before .before .before .args .image)) in
+    let n = c .before .before .before .before .before .before .before .before .before .before .before .args .n in
+    let e : c .before .node-kind2 .result ≡ t .kind (t .count n) = c .before .node-kind2 .ensures .0 ∙ ap (λ (k : ℕ). t .kind k) (c .before .before .before .before .node-count .ensures .0) in
+    lead-link t n (sym (c .before .before .before .before .before .before .before .before .before .node-kind .ensures .0) ∙ c .before .before .before .before .before .before .before .before .if1 .left) (omega (arith, c .before .before .before .before .before .before .before .node-first .ensures .0)) (omega (arith, c .before .before .before .before .node-count .ensures .0)) (λ f. c .match .rest .0 .1 (e ∙ f)) (λ f. c .match .rest .1 (e ∙ f))
 
 pub lead-of-spec : {M : Type 1} → statement M
 lead-of-spec =

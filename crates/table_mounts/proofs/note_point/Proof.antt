@@ -1,0 +1,28 @@
+-- `table_mounts::note_point` meets its contract. Assumes nothing.
+use mathlib.Core.Path.{refl}
+use denote.Ref.{now}
+use lib.ListN.{length-set}
+use Rattle.model.specs.Tree.{treeOf}
+use Rattle.table_mounts.proofs.PointLaws.{noted-more, noted-past}
+use borrow.Author.Needs.{needs}
+use Rattle.table_mounts.proofs.note_point.Statement.{statement}
+use Rattle.table_mounts.proofs.note_point.Tie as tie
+
+mount-point-requires : tie.Need-mount-point-requires
+mount-point-requires c κs = search needs
+
+slice-write-points : tie.Need-slice-write-points
+slice-write-points c = search needs
+
+same-length : tie.Need-same-length
+same-length c = search needs
+
+returns : tie.Need-returns
+returns c = (noted-more (treeOf (now (c .before .before .before .before .args .image))) (c .before .before .before .before .args .m) (now (c .before .before .before .before .args .points)) (c .before .before .before .before .pre .2) (c .before .mount-point .result) (c .before .mount-point .ensures .0) (c .if1 .taken), simp length-set)
+
+returns-2 : tie.Need-returns-2
+returns-2 c = (noted-past (treeOf (now (c .before .before .before .before .args .image))) (c .before .before .before .before .args .m) (now (c .before .before .before .before .args .points)) (c .before .before .before .before .pre .2) (c .before .mount-point .result) (c .before .mount-point .ensures .0) (c .if1 .left), refl)
+
+pub note-point-spec : {M : Type 1} → statement M
+note-point-spec =
+    tie.close (tie.spec mount-point-requires slice-write-points same-length returns returns-2)
