@@ -112,6 +112,28 @@ def of_four_mounts():
     return t.mount(0).mount(4, 0, 1).mount(4, 0, 2).mount(0, 1, 5).image()
 
 
+def like_a_directory():
+    """0 a file, 1 top, 2 "s" in 1. Mount 0 has root 1, so that what follows the nodes reads as a directory; mount 1 is on (0,2), and
+    its root is node 3 of three."""
+    t = Tree()
+    t.file()
+    t.top()
+    t.directory(1, "s")
+    return t.mount(1).mount(3, 0, 2).image()
+
+
+def of_two_magic(first, second):
+    """0 top, 1 "p" in 0, 2 and 3 tops, 4 and 5 magic links with these targets. Mount 1 has root 2 on (0,1)."""
+    t = Tree()
+    t.top()
+    t.directory(0, "p")
+    t.top()
+    t.top()
+    t.magic(None, None, first)
+    t.magic(None, None, second)
+    return t.mount(0).mount(2, 0, 1).image()
+
+
 def of_body(length):
     """A link whose body has a length: 0 top, 1 the link."""
     t = Tree()
@@ -291,6 +313,8 @@ check("rule-6-root-file-first", mount(MOUNTS, 0, root=3, point=3), broken(6, 0),
 check("rule-6-root-file-last", mount(MOUNTS, 3, root=3), broken(6, 3), "mount 3: a file as root")
 check("rule-6-root-n-first", mount(MOUNTS, 0, root=6, point=6), broken(6, 0), "mount 0: node 6 of six")
 check("rule-6-root-n-last", mount(MOUNTS, 3, root=6), broken(6, 3), "mount 3: node 6 of six")
+check("rule-6-root-n-like-a-directory", like_a_directory(), broken(6, 1), "mount 1: node 3 of three, whose bytes are mount 0's")
+check("rule-6-root-like-a-directory-mended", mount(like_a_directory(), 1, root=2), ACCEPTED, "the same with node 2")
 check("rule-6-field-first", mount(MOUNTS, 0, zero=1), broken(6, 0), "mount 0: last field 1")
 check("rule-6-field-last", mount(MOUNTS, 3, zero=0x100), broken(6, 3), "mount 3: last field 256")
 check("rule-6-field-at-255", mount(of_mounts(256), 255, zero=1), broken(6, 255), "mount 255: last field 1")
@@ -341,6 +365,11 @@ check("rule-7-target-root", node(LAST, 4, count=0), ACCEPTED, "node 4: mount 0's
 check("rule-7-file-in-any-mount", node(trees.bench(), 10, first=1), ACCEPTED, "the bench tree's `fd` to (1,3), a file of mount 0")
 check("rule-7-directory-in-its-mount", node(trees.bench(), 10, first=1, count=8), ACCEPTED, "the bench tree's `fd` to (1,8)")
 check("rule-7-directory-in-other-mount", node(trees.bench(), 10, first=1, count=2), broken(7, 10), "the bench tree's `fd` to (1,2)")
+check("rule-7-two-mounts-hold", of_two_magic((0, 1), (1, 2)), ACCEPTED, "nodes 4 and 5 into two mounts, each under its root")
+check("rule-7-two-mounts", of_two_magic((0, 3), (1, 0)), broken(7, 4), "node 4 into mount 0, node 5 into mount 1, both outside")
+check("rule-7-two-mounts-swapped", of_two_magic((1, 0), (0, 3)), broken(7, 4), "node 4 into mount 1, node 5 into mount 0, both outside")
+check("rule-7-second-mount-alone", of_two_magic((0, 0), (1, 0)), broken(7, 5), "node 4 to (0,0), node 5 to (1,0)")
+check("rule-7-second-mount-top", of_two_magic((0, 1), (1, 3)), broken(7, 5), "node 4 to (0,1), node 5 to a top of no mount, in mount 1")
 
 # ---------------------------------------------------------------------------------------------------------------------------------
 group("The table check, which rule and record")

@@ -22,10 +22,10 @@ def bench():
 
 
 def mounted():
-    """Directories 0 top, 1 "a" in 0, 2 "b" in 1, 3 top of a second tree, 7 "w" in 3, 12 top of a third, 13 "p" in 0, 15 "c" in 1. File 4 "f",
-    in 1, 3 and 7. Links in 3: 5 "abs" to `/a`, 6 "here" to `w`; magic in 3: 8 "out" to (0,0), 9 "in" to (1,7). Magic in 0:
+    """Directories 0 top, 1 "a" in 0, 2 "b" in 1, 3 top of a second tree, 7 "w" in 3, 12 top of a third, 13 "p" in 0, 15 "c" in 1, 16 "v" in 3.
+    File 4 "f", in 1, 3 and 7. Links in 3: 5 "abs" to `/a`, 6 "here" to `w`; magic in 3: 8 "out" to (0,0), 9 "in" to (1,7). Magic in 0:
     10 "under" to (0,1), 11 "far" to (1,3), 14 "file" to (1,4). Mount 1 has root 3 on (0,1), mount 2 root 12 on (0,2), mount 3
-    root 0 on (0,13)."""
+    root 0 on (0,13), mount 4 root 12 on (1,16)."""
     t = Tree()
     top = t.top()
     a = t.directory(top, "a")
@@ -45,7 +45,8 @@ def mounted():
     t.directory(top, "p")
     t.magic(top, "file", (1, 4))
     t.directory(a, "c")
-    return t.mount(0).mount(3, 0, 1).mount(12, 0, 2).mount(0, 0, 13).image()
+    t.directory(second, "v")
+    return t.mount(0).mount(3, 0, 1).mount(12, 0, 2).mount(0, 0, 13).mount(12, 1, 16).image()
 
 
 def linked():
