@@ -41,11 +41,12 @@ loop-less : tie.Need-loop-less Inv-loop μ-loop
 loop-less c = search needs
 
 loop-again : tie.Need-loop-again Inv-loop μ-loop
-loop-again c =
-    ( search needs
-    , c .before .before .loop .inv .1
-    , c .before .before .loop .inv .2
-    , below-more _ _ (c .before .before .loop .inv .3) (c .if1 .left) )
+loop-again c = (
+  search needs,
+  c .before .before .loop .inv .1,
+  c .before .before .loop .inv .2,
+  below-more _ _ (c .before .before .loop .inv .3) (c .if1 .left),
+)
 
 returns-2 : tie.Need-returns-2 Inv-loop μ-loop
 returns-2 c =
