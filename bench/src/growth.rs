@@ -77,14 +77,29 @@ pub fn input(case: &str) -> Option<Input> {
     growth.sizes.contains(&size).then(|| (growth.build)(size))
 }
 
-/// All growths, as a table of instructions per call.
-pub fn print() -> Result<(), Box<dyn Error>> {
-    for (i, growth) in GROWTHS.iter().enumerate() {
-        if i > 0 {
+/// What was measured of one growth.
+pub struct Series {
+    pub name: &'static str,
+    pub points: Vec<Point>,
+}
+
+/// The instructions of one call at a size.
+pub struct Point {
+    pub size: usize,
+    pub plain: f64,
+    pub proved: Option<f64>,
+}
+
+/// Measures all growths and prints each as a table of instructions per call.
+pub fn measure() -> Result<Vec<Series>, Box<dyn Error>> {
+    let mut measured = Vec::new();
+    for growth in GROWTHS {
+        if !measured.is_empty() {
             println!();
         }
         println!("{}: {}", growth.name, growth.about);
         println!("{:>8} {:>14} {:>14} {:>8}", "size", "plain instr", "proved instr", "ratio");
+        let mut points = Vec::new();
         for &size in growth.sizes {
             let case = format!("{}:{size}", growth.name);
             let costs = Measured::new(&case, (growth.build)(size))?.costs()?;
@@ -96,9 +111,11 @@ pub fn print() -> Result<(), Box<dyn Error>> {
                 optional(proved, 0),
                 optional(ratio, 3)
             );
+            points.push(Point { size, plain, proved });
         }
+        measured.push(Series { name: growth.name, points });
     }
-    Ok(())
+    Ok(measured)
 }
 
 /// A tree with its top and mount 0.

@@ -3,9 +3,9 @@
 //!
 //! ```text
 //! bench list                            the cases
-//! bench table [--svg FILE]              all cases: instructions and time per call;
-//!                                       with FILE, also a chart of the ratios
+//! bench table                           all cases: instructions and time per call
 //! bench growth                          how instructions per call grow with the input
+//! bench all FILE                        both, and a chart of both in FILE, as SVG
 //! bench run CASE plain|proved CALLS     one case, that many times
 //! ```
 //!
@@ -15,6 +15,9 @@
 //! ```text
 //! VENTOLAIRE_LIB=FOLDER cargo run --release --features proved -- table
 //! ```
+//!
+//! `bench/run` proves and builds the library and does `bench all` with
+//! docs/speed.svg.
 //!
 //! Instructions are counted with valgrind's callgrind. A table check is measured
 //! as it is. A walk is measured without the table check before it: the table is
@@ -37,7 +40,7 @@ use std::error::Error;
 use std::process::ExitCode;
 use tables::CASES;
 
-const USAGE: &str = "usage: bench list | table [--svg FILE] | growth | run CASE plain|proved CALLS";
+const USAGE: &str = "usage: bench list | table | growth | all FILE | run CASE plain|proved CALLS";
 
 fn main() -> ExitCode {
     let args: Vec<String> = std::env::args().skip(1).collect();
@@ -47,9 +50,9 @@ fn main() -> ExitCode {
             list();
             Ok(())
         }
-        ["table"] => table(None),
-        ["table", "--svg", file] => table(Some(file)),
-        ["growth"] => growth::print(),
+        ["table"] => table().map(drop),
+        ["growth"] => growth::measure().map(drop),
+        ["all", file] => all(file),
         ["run", case, side, calls] => run(case, side, calls),
         _ => Err(USAGE.into()),
     };
@@ -91,12 +94,21 @@ fn run(case: &str, side: &str, calls: &str) -> Result<(), Box<dyn Error>> {
     Ok(())
 }
 
-fn table(svg: Option<&str>) -> Result<(), Box<dyn Error>> {
-    if svg.is_some() && Side::ALL.len() < 2 {
-        return Err(
-            "a chart of the ratios needs both sides: build with the feature `proved`".into()
-        );
+/// Both tables, and a chart of both.
+fn all(file: &str) -> Result<(), Box<dyn Error>> {
+    if Side::ALL.len() < 2 {
+        return Err("a chart needs both sides: build with the feature `proved`".into());
     }
+    let ratios = table()?;
+    println!();
+    let series = growth::measure()?;
+    let chart = chart::draw(&ratios, geometric_mean(&ratios), &series);
+    std::fs::write(file, chart).map_err(|error| format!("cannot write {file}: {error}").into())
+}
+
+/// Measures all cases and prints them as a table; the ratios, if there are two
+/// sides.
+fn table() -> Result<Vec<(&'static str, f64)>, Box<dyn Error>> {
     println!(
         "{:20} {:>12} {:>12} {:>7} {:>12} {:>12}",
         "case", "plain instr", "proved instr", "ratio", "plain ns", "proved ns"
@@ -123,11 +135,7 @@ fn table(svg: Option<&str>) -> Result<(), Box<dyn Error>> {
     if !ratios.is_empty() {
         println!("geometric mean of the ratios: {:.3}", geometric_mean(&ratios));
     }
-    if let Some(file) = svg {
-        let chart = chart::ratios(&ratios, geometric_mean(&ratios));
-        std::fs::write(file, chart).map_err(|error| format!("cannot write {file}: {error}"))?;
-    }
-    Ok(())
+    Ok(ratios)
 }
 
 fn geometric_mean(ratios: &[(&str, f64)]) -> f64 {

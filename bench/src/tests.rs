@@ -439,8 +439,18 @@ fn growing_cases_answer_as_expected() {
 }
 
 #[test]
+fn the_chart_has_a_panel_for_each_growth() {
+    let points = [(0, 10.0, Some(12.0)), (40, 1_000.0, Some(900.0))];
+    let points = points.map(|(size, plain, proved)| growth::Point { size, plain, proved }).into();
+    let svg = chart::draw(&[], 1.0, &[growth::Series { name: "links", points }]);
+    assert_eq!(svg.matches("<polyline").count(), 2);
+    assert_eq!(svg.matches("<circle").count(), 4);
+    assert!(svg.contains(">links<") && svg.contains(">40<") && !svg.contains("NaN"));
+}
+
+#[test]
 fn the_chart_has_a_bar_for_each_ratio() {
-    let svg = chart::ratios(&[("one", 0.5), ("two", 4.0)], 2.0_f64.sqrt());
+    let svg = chart::draw(&[("one", 0.5), ("two", 4.0)], 2.0_f64.sqrt(), &[]);
     // The background and two bars.
     assert_eq!(svg.matches("<rect").count(), 3);
     assert!(svg.contains(">one<") && svg.contains(">4.00<"));

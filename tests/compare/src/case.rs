@@ -46,7 +46,7 @@ impl Call {
         second
     }
 
-    fn lent(&self) -> Lent {
+    pub fn lent(&self) -> Lent {
         Lent {
             image: self.image.clone(),
             path: self.path.clone(),
@@ -61,7 +61,7 @@ impl Call {
         }
     }
 
-    fn handle(&self) -> Handle {
+    pub fn handle(&self) -> Handle {
         Handle {
             mount: self.mount,
             node: self.node,

@@ -6,16 +6,19 @@
 //! compare replay --image HEX [[--mount N] [--node N] [--mark 0|1] --path HEX --how HEX
 //!                [--added N] [--added-mark 0|1]]
 //! compare show [--seed N] --call N | --table N
-//! compare faults [--seed N]
+//! compare cases FILE
+//! compare faults [--seed N] [--cases FILE]
 //! ```
 //!
 //! Without a command, inputs are made from the seed, 1 if not given: as many as
 //! said, or as many as take so many seconds. A difference is shrunk and printed
 //! as the arguments of `compare replay`, which shows both answers to it.
-//! `compare show` prints one input of a run, and `compare faults` plants faults
-//! in a resolver and sees that each is found. The last line counts what passed
-//! and what failed; the status is 0, 1 if anything failed, 2 if the arguments
-//! are wrong.
+//! `compare show` prints one input of a run. `compare cases` asks both sides for
+//! the answers to a file of cases, crates/cases/stdin, that were worked out by
+//! hand. `compare faults` plants faults in a resolver and sees that each is
+//! found by the comparison, and with a file of cases also by one of these. The
+//! last line counts what passed and what failed; the status is 0, 1 if anything
+//! failed, 2 if the arguments are wrong.
 //!
 //! Built with the feature `subject` it compares with the library:
 //!
@@ -34,6 +37,7 @@ mod resolver;
 mod shrink;
 mod stats;
 mod subject;
+mod worked;
 
 use case::{Call, Case, Difference};
 use faulty::Fault;
@@ -43,6 +47,7 @@ use std::process::ExitCode;
 use std::sync::Mutex;
 use std::time::{Duration, Instant};
 use subject::{Planted, Subject};
+use worked::Worked;
 
 const CALLS: u64 = 300_000;
 const TABLES: u64 = 100_000;
@@ -125,6 +130,7 @@ fn main() -> ExitCode {
     let done = match arguments.0.first().map(String::as_str) {
         Some("replay") => replay(&arguments),
         Some("show") => show(&arguments),
+        Some("cases") => cases(&arguments),
         Some("faults") => faults(&arguments),
         Some(other) if !other.starts_with("--") => Err(format!("no command is named {other}")),
         _ => run(&arguments),
@@ -376,50 +382,88 @@ fn show(arguments: &Arguments) -> Result<bool, String> {
     Ok(true)
 }
 
-/// Plants each fault in turn and counts the cases until it is found.
-fn faults(arguments: &Arguments) -> Result<bool, String> {
-    arguments.known(&["--seed"])?;
-    let seed = arguments.number("--seed")?.unwrap_or(1);
+fn read_cases(file: &str) -> Result<Vec<Worked>, String> {
+    let bytes = std::fs::read(file).map_err(|error| format!("cannot read {file}: {error}"))?;
+    worked::read(&bytes)
+}
+
+/// Asks both sides for the answers that were worked out by hand.
+fn cases(arguments: &Arguments) -> Result<bool, String> {
+    arguments.known(&["--fault"])?;
+    let file = arguments.0.get(1).ok_or("cases wants a file of cases")?;
+    let mut subject = subject(arguments)?;
     let mut passed = 0;
     let mut failed = 0;
+    for worked in read_cases(file)? {
+        for compared in [
+            worked.compare_resolver(),
+            worked.compare_subject(subject.as_mut()),
+        ] {
+            match compared {
+                Ok(()) => passed += 1,
+                Err(difference) => {
+                    failed += 1;
+                    println!("{}", worked.name);
+                    print_difference(&difference);
+                }
+            }
+        }
+    }
+    println!("{passed} passed, {failed} failed");
+    Ok(failed == 0)
+}
+
+/// How the comparison finds a fault: after how many cases, and at which.
+fn found_by_comparing(fault: Fault, seed: u64) -> Option<String> {
+    let mut subject = Planted(Some(fault));
+    let mut compared = 0u64;
+    Cases::new(seed, TABLES, CALLS).find_map(|numbered| {
+        compared += 1;
+        let difference = numbered.case.compare(&mut subject).err()?;
+        Some(format!(
+            "after {compared} cases, at {} {}: {}",
+            numbered.stream, numbered.number, difference.what
+        ))
+    })
+}
+
+/// How many of the worked cases find a fault, and the first of them.
+fn found_by_cases(fault: Fault, cases: &[Worked]) -> Option<String> {
+    let mut subject = Planted(Some(fault));
+    let finds = |worked: &&Worked| worked.compare_subject(&mut subject).is_err();
+    let found: Vec<&Worked> = cases.iter().filter(finds).collect();
+    let first = found.first()?;
+    Some(format!("by {}, the first {}", found.len(), first.name))
+}
+
+/// Plants each fault in turn and sees that it is found.
+fn faults(arguments: &Arguments) -> Result<bool, String> {
+    arguments.known(&["--seed", "--cases"])?;
+    let seed = arguments.number("--seed")?.unwrap_or(1);
+    let cases = arguments.text("--cases").map(read_cases).transpose()?;
+    let mut passed = 0;
+    let mut failed = 0;
+    let mut count = |found: Option<String>| {
+        *(if found.is_some() {
+            &mut passed
+        } else {
+            &mut failed
+        }) += 1;
+        found.unwrap_or_else(|| "NOT FOUND".into())
+    };
     for fault in Fault::ALL {
-        let mut subject = Planted(Some(*fault));
-        let mut compared = 0u64;
-        let found = Cases::new(seed, TABLES, CALLS).find_map(|numbered| {
-            compared += 1;
-            let difference = numbered.case.compare(&mut subject).err()?;
-            Some((numbered, difference))
-        });
-        match found {
-            Some((numbered, difference)) => {
-                passed += 1;
-                println!(
-                    "{fault:?} ({}): found after {compared} cases, at {} {}: {}",
-                    fault.line(),
-                    numbered.stream,
-                    numbered.number,
-                    difference.what
-                );
-            }
-            None => {
-                failed += 1;
-                println!(
-                    "{fault:?} ({}): NOT found in {compared} cases",
-                    fault.line()
-                );
-            }
+        println!("{fault:?} ({})", fault.line());
+        println!("  compared: {}", count(found_by_comparing(*fault, seed)));
+        if let Some(cases) = &cases {
+            println!("  worked cases: {}", count(found_by_cases(*fault, cases)));
         }
     }
     // And nothing is found where there is no fault.
     let mut subject = Planted(None);
     let alike = |numbered: Numbered| numbered.case.compare(&mut subject).is_ok();
-    if Cases::new(seed, TABLES / 10, CALLS / 10).all(alike) {
-        passed += 1;
-        println!("with no fault: no difference");
-    } else {
-        failed += 1;
-        println!("with no fault: a DIFFERENCE");
-    }
+    let none = Cases::new(seed, TABLES / 10, CALLS / 10).all(alike);
+    println!("with no fault");
+    println!("  compared: {}", count(none.then(|| "no difference".into())));
     println!("{passed} passed, {failed} failed");
     Ok(failed == 0)
 }

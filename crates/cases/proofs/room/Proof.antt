@@ -1,0 +1,13 @@
+-- `cases::room` meets its contract, by the law of a repeated element: computing the length would cost a step a byte.
+-- Assumes nothing.
+use Prim.Native.Nat.{ℕ}
+use mathlib.Core.Path.{sym}
+use lib.ListN.{length-replicate}
+use Rattle.cases.proofs.room.Statement.{statement}
+use Rattle.cases.proofs.room.Tie as tie
+
+returns : tie.Need-returns
+returns c = sym (length-replicate {0} {A = ℕ} 1048576 0)
+
+pub room-spec : {M : Type 1} → statement M
+room-spec = tie.close (tie.spec returns)

@@ -1,0 +1,150 @@
+// Runs the cases of its standard input, compares each answer with the expected one, and says of each which it was.
+//
+// The input is written by tests/cases/write: a u32 count, then a record of 80 bytes for each case, then the bytes that the records
+// lend. All numbers are little-endian. A record: u32 kind (1: table check, 2: call); u32 offset and u32 length of the image, the
+// path, the open_how and the case's name; u32 mark; u64 mount; u64 node; the expected numbers, six u32 for a call, two for a check.
+use image::bytes::u32_at;
+use image::bytes::u64_at;
+use ventolaire::ventolaire_check;
+use ventolaire::ventolaire_resolve;
+ghost use mathlib.Core.Bool.{true};
+ghost use mathlib.Core.Path.{_≡_};
+ghost use Prim.Native.Nat.{_+_, _*_, _≤_};
+ghost use lib.ListN.{length};
+
+// The part of the input whose offset and length stand at a place, or nothing where it reaches outside.
+fn part(s: &[u8], at: usize) -> &[u8]
+    requires { ⌜ at + 8 ≤ length (now s) ⌝ }
+{
+    let from = u32_at(s, at);
+    let count = u32_at(s, at + 4);
+    let end = from + count;
+    if end <= s.len() {
+        return &s[from..end];
+    }
+    &s[..0]
+}
+
+// The six numbers of the answer; of a table check the first two, and zeros.
+fn answer(s: &[u8], at: usize) -> [u64; 6]
+    requires { ⌜ at + 80 ≤ length (now s) ⌝ }
+{
+    let mut out = [0u64; 6];
+    let image = part(s, at + 4);
+    if u32_at(s, at) == 1 {
+        ventolaire_check(image, &mut out);
+        return out;
+    }
+    let path = part(s, at + 12);
+    let how = part(s, at + 20);
+    let mark = u32_at(s, at + 36) == 1;
+    let mount = u64_at(s, at + 40);
+    let node = u64_at(s, at + 48);
+    ventolaire_resolve(image, mount, node, mark, path, how, &mut out);
+    out
+}
+
+fn expected(s: &[u8], at: usize) -> [u64; 6]
+    requires { ⌜ at + 80 ≤ length (now s) ⌝ }
+{
+    let mut out = [0u64; 6];
+    let mut i = 0;
+    while i < 6 {
+        out[i] = u32_at(s, at + 56 + 4 * i) as u64;
+        i += 1;
+    }
+    out
+}
+
+fn same(a: [u64; 6], b: [u64; 6]) -> bool
+    ensures { λ r. ⌜ (r ≡ true → a ≡ b) ⌝ }
+{
+    let mut i = 0;
+    while i < 6 {
+        if a[i] != b[i] {
+            return false;
+        }
+        i += 1;
+    }
+    true
+}
+
+fn print_six(numbers: [u64; 6]) {
+    let mut i = 0;
+    while i < 6 {
+        io::write_all(1, b" ");
+        io::print_decimal(1, numbers[i]);
+        i += 1;
+    }
+}
+
+// Runs the case whose record begins at a place.
+fn run_case(s: &[u8], at: usize) -> bool
+    requires { ⌜ at + 80 ≤ length (now s) ⌝ }
+{
+    let name = part(s, at + 28);
+    let want = expected(s, at);
+    let got = answer(s, at);
+    if same(want, got) {
+        io::write_all(1, b"ok ");
+        io::write_all(1, name);
+        io::write_all(1, b"\n");
+        return true;
+    }
+    io::write_all(1, b"no ");
+    io::write_all(1, name);
+    io::write_all(1, b": expected");
+    print_six(want);
+    io::write_all(1, b", got");
+    print_six(got);
+    io::write_all(1, b"\n");
+    false
+}
+
+// Runs a number of cases and answers how many passed. A record that is cut off counts as failed.
+fn run(s: &[u8], count: usize) -> usize
+    requires { ⌜ count ≤ 65536 ⌝ }
+    ensures { λ r. ⌜ r ≤ count ⌝ }
+{
+    let mut passed = 0;
+    let mut i = 0;
+    while i < count {
+        let at = 4 + 80 * i;
+        if s.len() < at + 80 {
+            return passed;
+        }
+        if run_case(s, at) {
+            passed += 1;
+        }
+        i += 1;
+    }
+    passed
+}
+
+fn run_all(s: &[u8]) {
+    if s.len() < 4 {
+        return;
+    }
+    let count = u32_at(s, 0);
+    if 65536 < count {
+        return;
+    }
+    let passed = run(s, count);
+    io::print_decimal(1, passed as u64);
+    io::write_all(1, b" passed, ");
+    io::print_decimal(1, (count - passed) as u64);
+    io::write_all(1, b" failed\n");
+}
+
+// Room for the input. The promise tells main the length, which lending it as a slice asks for.
+fn room() -> [u8; 1048576]
+    ensures { λ r. ⌜ 1048576 ≡ length r ⌝ }
+{
+    [0; 1048576]
+}
+
+fn main() {
+    let mut input = room();
+    let n = io::read_full(0, &mut input);
+    run_all(&input[..n]);
+}

@@ -1,0 +1,231 @@
+"""What refuses a call before its walk, and the limits."""
+
+import trees
+from image import counts, number
+from listed import *
+
+BENCH = trees.bench()
+CHAINS = trees.chains()
+LINKED = trees.linked()
+LONGEST = trees.longest()
+BAD_TABLE = b"TOC2" + BENCH[4:]
+
+KNOWN_FLAGS = [16, 17, 19, 21]
+KNOWN_RESOLVE = [0, 1, 2, 3, 4]
+
+# ---------------------------------------------------------------------------------------------------------------------------------
+group("The open_how", "The bench tree, handle (0,1), path `cal` if no other is given.")
+over(BENCH, "bench")
+says("| 7 E2BIG | open_how over 4,096 bytes, or over 24 with a byte after the 24th not zero | .. | 22 EINVAL | open_how under 24 bytes;")
+for length, answer in [
+    (0, refused(EINVAL)),
+    (1, refused(EINVAL)),
+    (16, refused(EINVAL)),
+    (23, refused(EINVAL)),
+    (24, found(0, 2, 1, 0)),
+    (25, found(0, 2, 1, 0)),
+    (4096, found(0, 2, 1, 0)),
+    (4097, refused(E2BIG)),
+    (5000, refused(E2BIG)),
+]:
+    call(f"how-{length}-zeros", "cal", answer, how=bytes(length), shown=f"{length} zero bytes")
+for length, at, answer in [
+    (25, 25, refused(E2BIG)),
+    (32, 29, refused(E2BIG)),
+    (4096, 25, refused(E2BIG)),
+    (4096, 2000, refused(E2BIG)),
+    (4096, 4096, refused(E2BIG)),
+    (4097, 4097, refused(E2BIG)),
+]:
+    how = bytearray(length)
+    how[at - 1] = 1
+    call(f"how-{length}-byte-{at}-set", "cal", answer, how=bytes(how), shown=f"{length} bytes, byte {at} set")
+how = bytearray(25)
+how[24] = 0x80
+call("how-25-high-bit-set", "cal", refused(E2BIG), how=bytes(how), shown="25 bytes, the highest bit of byte 25 set")
+
+says("| 22 EINVAL | .. both BENEATH and IN_ROOT; mode or padding not zero;")
+call("both-scopes", "cal", refused(EINVAL), resolve=BENEATH | IN_ROOT)
+call("both-scopes-and-more", "cal", refused(EINVAL), resolve=BENEATH | IN_ROOT | NO_XDEV | NO_MAGICLINKS | NO_SYMLINKS)
+for byte in range(9, 17):
+    how = bytearray(24)
+    how[byte - 1] = 1
+    part = "mode" if byte < 11 else "padding"
+    call(f"{part}-byte-{byte}", "cal", refused(EINVAL), how=bytes(how), shown=f"byte {byte} set, of the {part}")
+call("mode-0600", "cal", refused(EINVAL), how=open_how(mode=0o600), shown="mode 0600")
+call("padding-high-bit", "cal", refused(EINVAL), how=open_how(mode=1 << 63), shown="the padding's highest bit")
+
+says("Flags known: O_DIRECTORY 0x10000, O_NOFOLLOW 0x20000, O_PATH 0x200000, O_CLOEXEC 0x80000 (no effect); house: no others yet.")
+for bit in KNOWN_FLAGS:
+    call(f"known-flag-{bit}", "cal", found(0, 2, 1, 0), flags=1 << bit)
+call("known-flags-all", "cal", found(0, 2, 1, 0), flags=O_DIRECTORY | O_NOFOLLOW | O_PATH | O_CLOEXEC)
+call("o-cloexec-on-link", "cal/up", found(0, 0, 4, 1), flags=O_CLOEXEC)
+call("o-cloexec-on-file", "cal/tare", found(0, 3, 2, 0), flags=O_CLOEXEC)
+
+says("Resolve: NO_XDEV 1, NO_MAGICLINKS 2, NO_SYMLINKS 4, BENEATH 8, IN_ROOT 16.")
+for bit in KNOWN_RESOLVE:
+    call(f"known-resolve-{bit}", "cal", found(0, 2, 1, 0), resolve=1 << bit)
+call("known-resolve-all-but-in-root", "cal", found(0, 2, 1, 0), resolve=15)
+call("known-resolve-all-but-beneath", "cal", found(0, 2, 1, 0), resolve=23)
+
+# ---------------------------------------------------------------------------------------------------------------------------------
+group("Unknown bits", "The bench tree, handle (0,1), path `cal`: EINVAL, with the number of the bit as detail.")
+says("An unknown bit is named by its number, lowest first: detail b for flags bit b, 64 + b for resolve bit b.")
+for bit in range(64):
+    if bit not in KNOWN_FLAGS:
+        call(f"flags-bit-{bit}", "cal", refused(EINVAL, detail=bit), flags=1 << bit, family="each unknown bit of flags")
+for bit in range(64):
+    if bit not in KNOWN_RESOLVE:
+        call(f"resolve-bit-{bit}", "cal", refused(EINVAL, detail=64 + bit), resolve=1 << bit, family="each unknown bit of resolve")
+call("flags-bits-0-63", "cal", refused(EINVAL, detail=0), flags=1 | 1 << 63)
+call("flags-bits-31-32", "cal", refused(EINVAL, detail=31), flags=3 << 31)
+call("flags-bits-15-to-18", "cal", refused(EINVAL, detail=15), flags=0xF << 15)
+call("flags-bits-16-to-19", "cal", refused(EINVAL, detail=18), flags=0xF << 16)
+call("flags-all", "cal", refused(EINVAL, detail=0), flags=2**64 - 1)
+call("resolve-bits-5-63", "cal", refused(EINVAL, detail=69), resolve=1 << 5 | 1 << 63)
+call("resolve-bits-31-32", "cal", refused(EINVAL, detail=95), resolve=3 << 31)
+call("resolve-all", "cal", refused(EINVAL, detail=69), resolve=2**64 - 1)
+call("flags-and-resolve-all", "cal", refused(EINVAL, detail=0), flags=2**64 - 1, resolve=2**64 - 1)
+
+says("OpenBSD's O_BELOW has the value 0x40000, which here is unknown; the mark belongs to the handle.")
+call("o-below", "cal", refused(EINVAL, detail=18), flags=0x40000)
+call("o-below-marked", "..", refused(EINVAL, detail=18), mark=True, flags=0x40000)
+
+# ---------------------------------------------------------------------------------------------------------------------------------
+group("The path", "The bench tree, handle (0,1).")
+says("| 36 ENAMETOOLONG | path over 4,095 bytes, or a component over 255 when looked up |")
+call("path-4095-dots", "./" * 2047 + ".", found(0, 1, 2048, 0), shown="2,047 times `./` and `.`: 4,095 bytes")
+call("path-4096-dots", "./" * 2048, refused(ENAMETOOLONG), shown="2,048 times `./`: 4,096 bytes")
+call("path-4095-slashes", "/" * 4095, found(0, 0, 0, 0), shown="4,095 slashes")
+call("path-4096-slashes", "/" * 4096, refused(ENAMETOOLONG), shown="4,096 slashes")
+call("path-4095-name", "n" * 4095, refused(ENAMETOOLONG, 1, 0), shown="a name of 4,095 bytes")
+call("path-5000", "n" * 5000, refused(ENAMETOOLONG), shown="a name of 5,000 bytes")
+call("path-4095-found", "cal/" + "/" * 4087 + "tare", found(0, 3, 2, 0), shown="`cal/`, 4,087 slashes more and `tare`: 4,095 bytes")
+over(LINKED, "linked")
+call("name-255-found", "n" * 255, found(0, 13, 1, 0), at=(0, 0), shown="the name of 255 bytes")
+call("name-255-absent", "m" * 255, refused(ENOENT, 1, 0), at=(0, 0), shown="another name of 255 bytes")
+call("name-256", "n" * 256, refused(ENAMETOOLONG, 1, 0), at=(0, 0), shown="a name of 256 bytes")
+call("name-256-before-more", "n" * 256 + "/..", refused(ENAMETOOLONG, 1, 0), at=(0, 0), shown="a name of 256 bytes and `/..`")
+call("name-256-later", "d/../" + "n" * 256, refused(ENAMETOOLONG, 3, 0), at=(0, 0), shown="`d/../` and a name of 256 bytes")
+call("name-256-in-body", "long", refused(ENAMETOOLONG, 2, 1), at=(0, 0))
+call("name-254-absent", "n" * 254, refused(ENOENT, 1, 0), at=(0, 0), shown="a name of 254 bytes")
+over(BENCH, "bench")
+
+says("| 2 ENOENT | empty path; .. | 22 EINVAL | .. zero byte in the path (house) |")
+call("path-empty", "", refused(ENOENT))
+call("path-empty-in-root", "", refused(ENOENT), resolve=IN_ROOT)
+call("path-zero", b"\0", refused(EINVAL))
+call("path-zero-first", b"\0cal", refused(EINVAL))
+call("path-zero-middle", b"ca\0l", refused(EINVAL))
+call("path-zero-last", b"cal\0", refused(EINVAL))
+call("path-zero-after-slash", b"/\0", refused(EINVAL))
+call("path-zero-at-4095", b"/" * 4094 + b"\0", refused(EINVAL), shown="4,094 slashes and a zero byte")
+
+# ---------------------------------------------------------------------------------------------------------------------------------
+group("The handle", "The bench tree: 12 nodes, 2 mounts; path `.` if no other is given.")
+says('In this order: number out of range: EBADF; not a directory: ENOTDIR; not under the mount\'s root, or "covered": EBADF.')
+call("handle-root", ".", found(0, 0, 1, 0), at=(0, 0))
+call("handle-mount-1", ".", found(1, 8, 1, 0), at=(1, 8))
+call("handle-mount-2", ".", refused(EBADF), at=(2, 8))
+call("handle-mount-65535", ".", refused(EBADF), at=(65535, 0))
+call("handle-mount-2-to-32", ".", refused(EBADF), at=(2**32, 0))
+call("handle-mount-2-to-64-less-1", ".", refused(EBADF), at=(2**64 - 1, 0))
+call("handle-node-11", ".", refused(ENOTDIR), at=(0, 11))
+call("handle-node-12", ".", refused(EBADF), at=(0, 12))
+call("handle-node-65536", ".", refused(EBADF), at=(0, 65536))
+call("handle-node-2-to-32-and-1", ".", refused(EBADF), at=(0, 2**32 + 1))
+call("handle-node-2-to-64-less-1", ".", refused(EBADF), at=(0, 2**64 - 1))
+call("handle-both-out-of-range", ".", refused(EBADF), at=(2, 12))
+call("handle-file", ".", refused(ENOTDIR), at=(0, 3))
+call("handle-link", ".", refused(ENOTDIR), at=(0, 4))
+call("handle-magic", ".", refused(ENOTDIR), at=(0, 10))
+call("handle-outside-mount-1", ".", refused(EBADF), at=(1, 1))
+call("handle-above-mount-1", ".", refused(EBADF), at=(1, 0))
+call("handle-outside-mount-0", ".", refused(EBADF), at=(0, 8))
+
+says('A place is covered if it is the point, in the parent mount, of a mount other than mount 0. It is checked for every path.')
+call("handle-covered", ".", refused(EBADF), at=(0, 7))
+call("handle-covered-absolute", "/", refused(EBADF), at=(0, 7))
+call("handle-bad-absolute", "/lab/cal", refused(EBADF), at=(0, 12))
+call("handle-file-absolute", "/", refused(ENOTDIR), at=(0, 3))
+call("handle-covered-mark", "/", refused(EBADF), at=(0, 7), mark=True)
+call("handle-below-covered", ".", found(0, 15, 1, 0), at=(0, 15), image=trees.mounted())
+
+# ---------------------------------------------------------------------------------------------------------------------------------
+group("The order of refusals", "The bench tree. Each call has two faults or more, and the earlier is answered.")
+says("Order: table, open_how length (too short, too long, tail), flags, resolve, both scopes, mode, path too long, path empty, zero byte, handle, walk.")
+LONG = "n" * 4096
+SHORT = bytes([1]) + bytes(22)
+TAIL = bytes(1) + b"\1"
+call("order-table-short", "cal", refused(EUCLEAN), how=bytes(23), image=BAD_TABLE, shown="a refused table, an open_how of 23 bytes")
+call("order-table-all", "", refused(EUCLEAN), at=(9, 99), how=SHORT, image=BAD_TABLE, shown="a refused table, and all that can be wrong after it")
+call("order-short-flags", "cal", refused(EINVAL), how=SHORT, shown="23 bytes with bit 0 of flags: no bit is named")
+call("order-short-path", LONG, refused(EINVAL), how=bytes(23), shown="23 bytes, a path of 4,096")
+call("order-long-tail", "cal", refused(E2BIG), how=bytes(4096) + b"\1", shown="4,097 bytes, the last one set")
+call("order-long-flags", "cal", refused(E2BIG), how=open_how(flags=1, tail=bytes(4073)), shown="4,097 bytes with bit 0 of flags")
+call("order-tail-flags", "cal", refused(E2BIG), how=open_how(flags=1, tail=TAIL), shown="the tail set, bit 0 of flags")
+call("order-tail-all", "", refused(E2BIG), at=(9, 99), how=open_how(1, 32, 1, TAIL), shown="the tail set, and all that can be wrong after it")
+call("order-flags-resolve", "cal", refused(EINVAL, detail=63), flags=1 << 63, resolve=1 << 5)
+call("order-resolve-scopes", "cal", refused(EINVAL, detail=69), resolve=1 << 5 | BENEATH | IN_ROOT)
+call("order-flags-scopes", "cal", refused(EINVAL, detail=63), flags=1 << 63, resolve=BENEATH | IN_ROOT)
+call("order-flags-mode", "cal", refused(EINVAL, detail=63), how=open_how(1 << 63, 0, 1), shown="bit 63 of flags, mode 1")
+call("order-resolve-mode", "cal", refused(EINVAL, detail=127), how=open_how(0, 1 << 63, 1), shown="bit 63 of resolve, mode 1")
+call("order-scopes-mode", "cal", refused(EINVAL), how=open_how(0, BENEATH | IN_ROOT, 1), shown="both scopes, mode 1")
+call("order-scopes-path", LONG, refused(EINVAL), resolve=BENEATH | IN_ROOT, shown="both scopes, a path of 4,096 bytes")
+call("order-scopes-empty", "", refused(EINVAL), resolve=BENEATH | IN_ROOT, shown="both scopes, an empty path")
+call("order-mode-path", LONG, refused(EINVAL), how=open_how(mode=1), shown="mode 1, a path of 4,096 bytes")
+call("order-mode-empty", "", refused(EINVAL), how=open_how(mode=1), shown="mode 1, an empty path")
+call("order-mode-handle", "cal", refused(EINVAL), at=(9, 99), how=open_how(mode=1), shown="mode 1, a handle out of range")
+call("order-path-zero", b"\0" + b"n" * 4095, refused(ENAMETOOLONG), shown="a path of 4,096 bytes that begins with a zero byte")
+call("order-path-handle", LONG, refused(ENAMETOOLONG), at=(0, 3), shown="a path of 4,096 bytes, a file as the handle")
+call("order-empty-handle", "", refused(ENOENT), at=(9, 99), shown="an empty path, a handle out of range")
+call("order-empty-handle-kind", "", refused(ENOENT), at=(0, 3), shown="an empty path, a file as the handle")
+call("order-zero-handle", b"\0", refused(EINVAL), at=(9, 99), shown="a zero byte, a handle out of range")
+call("order-zero-handle-kind", b"\0", refused(EINVAL), at=(0, 3), shown="a zero byte, a file as the handle")
+call("order-zero-walk", b"/\0", refused(EINVAL), resolve=BENEATH, shown="a zero byte, Start under BENEATH")
+call("order-range-kind", "cal", refused(EBADF), at=(2, 3), shown="a mount out of range, a file")
+call("order-kind-under", "cal", refused(ENOTDIR), at=(1, 3), shown="a file that is not under the mount's root")
+call("order-kind-walk", "/", refused(ENOTDIR), at=(0, 3), resolve=BENEATH, shown="a file as the handle, Start under BENEATH")
+call("order-under-walk", "/", refused(EBADF), at=(1, 1), mark=True, shown="a handle outside its mount, marked, Start")
+call("order-covered-walk", "/", refused(EBADF), at=(0, 7), resolve=BENEATH, shown="a covered handle, Start under BENEATH")
+call("order-range-walk", "..", refused(EBADF), at=(0, 12), resolve=BENEATH, shown="a handle out of range, `..` under BENEATH")
+call("order-covered-enoent", "nope", refused(EBADF), at=(0, 7), shown="a covered handle, an absent name")
+
+# ---------------------------------------------------------------------------------------------------------------------------------
+group("Limits of the walk", "Over `chains` and `longest`, handle (0,0).")
+over(CHAINS, "chains")
+says("Limits: 40 links pass, 41 don't;")
+call("links-tail-40", "t1", found(0, 1, 41, 40), at=(0, 0))
+call("links-tail-41", "t0", refused(ELOOP, 41, 40), at=(0, 0))
+call("links-nested-40", "n1", found(0, 1, 80, 40), at=(0, 0))
+call("links-nested-41", "n0", refused(ELOOP, 41, 40), at=(0, 0))
+call("links-absolute-40", "a1", found(0, 1, 41, 40), at=(0, 0))
+call("links-absolute-41", "a0", refused(ELOOP, 41, 40), at=(0, 0))
+call("links-magic-40", "m/" * 39 + "m", found(0, 0, 40, 40), at=(0, 0), shown="40 times `m`")
+call("links-magic-41", "m/" * 40 + "m", refused(ELOOP, 41, 40), at=(0, 0), shown="41 times `m`")
+call("links-magic-40-then-name", "m/" * 40 + "d", found(0, 1, 41, 40), at=(0, 0), shown="40 times `m/` and `d`")
+call("links-magic-40-then-link", "m/" * 40 + "t40", refused(ELOOP, 41, 40), at=(0, 0), shown="40 times `m/` and `t40`")
+call("links-mixed-40", "m/" * 10 + "n31/../t31/../a31", found(0, 1, 54, 40), at=(0, 0), shown="10 times `m/` and `n31/../t31/../a31`")
+call("links-mixed-41", "m/" * 11 + "n31/../t31/../a31", refused(ELOOP, 54, 40), at=(0, 0), shown="11 times `m/` and `n31/../t31/../a31`")
+call("links-40-then-unfollowed", "t1/../t0", found(0, 4, 43, 40), at=(0, 0), flags=O_NOFOLLOW | O_PATH)
+
+says("A link that is not last, or is last and followed: the 41st gives ELOOP. Then event Link.")
+call("links-41st-magic-free", "u1", refused(ELOOP, 41, 40), at=(0, 0))
+call("links-41st-magic-beneath", "u1", refused(ELOOP, 41, 40), at=(0, 0), resolve=BENEATH)
+call("links-41st-magic-mark", "u1", refused(ELOOP, 41, 40), at=(0, 0), mark=True)
+call("links-41st-magic-in-root", "u1", refused(ELOOP, 41, 40), at=(0, 0), resolve=IN_ROOT)
+call("links-40th-magic-free", "u2", found(0, 0, 40, 40), at=(0, 0))
+call("links-40th-magic-beneath", "u2", refused(EXDEV, 40, 39), at=(0, 0), resolve=BENEATH)
+call("links-40th-magic-mark", "u2", refused(ENOENT, 40, 39), at=(0, 0), mark=True)
+call("links-40th-magic-in-root", "u2", refused(EXDEV, 40, 39), at=(0, 0), resolve=IN_ROOT)
+call("links-41st-jump-beneath", "v1", refused(ELOOP, 41, 40), at=(0, 0), resolve=BENEATH)
+call("links-41st-jump-mark", "v1", refused(ELOOP, 41, 40), at=(0, 0), mark=True)
+call("links-40th-jump-free", "v2", found(0, 1, 41, 40), at=(0, 0))
+call("links-40th-jump-beneath", "v2", refused(EXDEV, 40, 39), at=(0, 0), resolve=BENEATH)
+call("links-40th-jump-mark", "v2", refused(ENOENT, 40, 39), at=(0, 0), mark=True)
+
+says("At most 40 links are followed and at most 83,968 components taken (41 texts of at most 2,048).")
+over(LONGEST, "longest")
+call("components-83968", "./" * 2047 + "a", found(0, 39, 83968, 40), at=(0, 0), shown="2,047 times `./` and `a`")
+call("components-83968-refused", "./" * 2047 + "s", refused(ELOOP, 83968, 40), at=(0, 0), shown="2,047 times `./` and `s`")
+call("components-2048", "./" * 2047 + "d", found(0, 1, 2048, 0), at=(0, 0), shown="2,047 times `./` and `d`")

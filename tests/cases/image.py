@@ -1,0 +1,116 @@
+"""Table images, built from their records. Nothing here knows an answer."""
+
+DIRECTORY, FILE, SYMLINK, MAGIC = 1, 2, 3, 4
+
+
+def number(value, width):
+    return value.to_bytes(width, "little")
+
+
+class Tree:
+    """Nodes, mounts and names, to be written as an image."""
+
+    def __init__(self):
+        self.nodes = []
+        self.mounts = []
+        self.names = {}
+        self.text = b""
+
+    def _node(self, kind, parent, first, count):
+        self.nodes.append((kind, parent, first, count))
+        return len(self.nodes) - 1
+
+    def put(self, text):
+        """Where a text stands, appended to the text area."""
+        at = len(self.text)
+        self.text += text
+        return at
+
+    def top(self):
+        return self._node(DIRECTORY, len(self.nodes), 0, 0)
+
+    def directory(self, parent, name=None):
+        node = self._node(DIRECTORY, parent, 0, 0)
+        return self.name(parent, name, node)
+
+    def file(self, parent=None, name=None):
+        return self.name(parent, name, self._node(FILE, 0, 0, 0))
+
+    def symlink(self, parent, name, body):
+        body = body if isinstance(body, bytes) else body.encode()
+        return self.name(parent, name, self._node(SYMLINK, 0, self.put(body), len(body)))
+
+    def magic(self, parent, name, target):
+        return self.name(parent, name, self._node(MAGIC, 0, *target))
+
+    def name(self, parent, name, node):
+        if name is not None:
+            name = name if isinstance(name, bytes) else name.encode()
+            self.names.setdefault(parent, {})[name] = (self.put(name), node)
+        return node
+
+    def mount(self, root, parent=None, point=None):
+        """Mount 0 is given by its root alone."""
+        self.mounts.append((root, parent or 0, root if point is None else point, 0))
+        return self
+
+    def image(self):
+        nodes, entries = b"", b""
+        listed = 0
+        for at, (kind, parent, first, count) in enumerate(self.nodes):
+            if kind == DIRECTORY:
+                names = sorted(self.names.get(at, {}).items())
+                first, count = listed, len(names)
+                listed += count
+                for name, (offset, node) in names:
+                    entries += number(offset, 4) + number(len(name), 2) + number(node, 2)
+            nodes += number(kind, 2) + number(parent, 2) + number(first, 4) + number(count, 4)
+        mounts = b"".join(number(field, 2) for mount in self.mounts for field in mount)
+        body = nodes + mounts + entries + self.text
+        return header(len(self.nodes), len(self.mounts), listed, len(self.text), 20 + len(body)) + body
+
+
+def header(nodes, mounts, entries, text, total):
+    counts = number(nodes, 2) + number(mounts, 2) + number(entries, 2) + number(0, 2)
+    return b"TOC1" + counts + number(text, 4) + number(total, 4)
+
+
+def field(image, at, width):
+    return int.from_bytes(image[at : at + width], "little")
+
+
+def put(image, at, value, width):
+    """The image with one field changed."""
+    return image[:at] + number(value, width) + image[at + width :]
+
+
+def _change(image, at, layout, fields):
+    for name, value in fields.items():
+        offset, width = layout[name]
+        image = put(image, at + offset, value, width)
+    return image
+
+
+def node(image, record, **fields):
+    """The image with fields of a node changed: kind, parent, first, count."""
+    layout = {"kind": (0, 2), "parent": (2, 2), "first": (4, 4), "count": (8, 4)}
+    return _change(image, 20 + 12 * record, layout, fields)
+
+
+def mount(image, record, **fields):
+    """The image with fields of a mount changed: root, parent, point, zero."""
+    layout = {"root": (0, 2), "parent": (2, 2), "point": (4, 2), "zero": (6, 2)}
+    return _change(image, 20 + 12 * field(image, 4, 2) + 8 * record, layout, fields)
+
+
+def entry(image, record, **fields):
+    """The image with fields of an entry changed: offset, length, node."""
+    layout = {"offset": (0, 4), "length": (4, 2), "node": (6, 2)}
+    at = 20 + 12 * field(image, 4, 2) + 8 * field(image, 6, 2) + 8 * record
+    return _change(image, at, layout, fields)
+
+
+def counts(image, **fields):
+    """The image with fields of its header changed: nodes, mounts, entries, zero, text, total."""
+    layout = {"nodes": (4, 2), "mounts": (6, 2), "entries": (8, 2), "zero": (10, 2), "text": (12, 4), "total": (16, 4)}
+    return _change(image, 0, layout, fields)

@@ -1,0 +1,129 @@
+"""The list of cases, and the words that it is written in.
+
+A group has a title, `says` quotes the sentence of document 01 that the cases after it follow from, and a case is a call or a
+table check with the answer that this sentence gives. No answer is computed: each is written down."""
+
+from image import number
+
+EUCLEAN, E2BIG, EINVAL, ENAMETOOLONG, ENOENT = 117, 7, 22, 36, 2
+EBADF, ENOTDIR, ELOOP, EXDEV = 9, 20, 40, 18
+ERRNOS = {
+    117: "EUCLEAN", 7: "E2BIG", 22: "EINVAL", 36: "ENAMETOOLONG", 2: "ENOENT",
+    9: "EBADF", 20: "ENOTDIR", 40: "ELOOP", 18: "EXDEV",
+}
+
+O_DIRECTORY, O_NOFOLLOW, O_PATH, O_CLOEXEC = 0x10000, 0x20000, 0x200000, 0x80000
+NO_XDEV, NO_MAGICLINKS, NO_SYMLINKS, BENEATH, IN_ROOT = 1, 2, 4, 8, 16
+FLAGS = {0x10000: "O_DIRECTORY", 0x20000: "O_NOFOLLOW", 0x200000: "O_PATH", 0x80000: "O_CLOEXEC"}
+RESOLVE = {1: "NO_XDEV", 2: "NO_MAGICLINKS", 4: "NO_SYMLINKS", 8: "BENEATH", 16: "IN_ROOT"}
+
+LAB = (0, 1)
+
+
+def found(mount, node, components, links):
+    return (0, 255, mount, node, components, links)
+
+
+def refused(errno, components=0, links=0, detail=255):
+    return (errno, detail, 0, 0, components, links)
+
+
+ACCEPTED = (0, 0)
+
+
+def broken(rule, record=0):
+    return (rule, record)
+
+
+def open_how(flags=0, resolve=0, mode=0, tail=b""):
+    """u64 flags, u16 mode with 6 padding bytes, u64 resolve, and what follows them."""
+    return number(flags, 8) + number(mode, 8) + number(resolve, 8) + tail
+
+
+class Case:
+    def __init__(self, name, image, answer, shown, family):
+        self.name, self.image, self.answer = name, image, answer
+        self.shown, self.family = shown, family
+        self.kind, self.path, self.how = 1, b"", b""
+        self.mount, self.node, self.mark = 0, 0, False
+
+
+class Sentence:
+    def __init__(self, words):
+        self.words, self.cases = words, []
+
+
+class Group:
+    def __init__(self, title, about):
+        self.title, self.about, self.sentences = title, about, []
+
+
+GROUPS = []
+_now = {}
+
+
+def group(title, about=""):
+    GROUPS.append(Group(title, about))
+
+
+def says(words):
+    GROUPS[-1].sentences.append(Sentence(words))
+
+
+def over(image, name):
+    """The table of the calls that follow, and its name."""
+    _now["image"], _now["over"] = image, name
+
+
+def _add(case):
+    GROUPS[-1].sentences[-1].cases.append(case)
+
+
+def _bits(names, bits):
+    known = [name for bit, name in names.items() if bits & bit]
+    rest = bits & ~sum(names)
+    return known + ([f"{rest:#x}"] if rest else [])
+
+
+def _text(path):
+    if len(path) > 60:
+        return f"{len(path)} bytes"
+    shown = path.decode("latin-1").replace("\0", "\\0").replace("|", "\\|")
+    return f"`{shown}`" if shown else "empty"
+
+
+def call(name, path, answer, at=LAB, mark=False, flags=0, resolve=0, how=None, image=None, shown=None, family=None):
+    path = path if isinstance(path, bytes) else path.encode()
+    tree = _now["over"]
+    words = [shown or _text(path)]
+    if tree != "bench" and image is None:
+        words.insert(0, f"`{tree}`:")
+    if at != (LAB if tree == "bench" else (0, 0)):
+        words.append(f"handle ({at[0]},{at[1]})")
+    if mark:
+        words.append("marked")
+    words += _bits(FLAGS, flags) + _bits(RESOLVE, resolve)
+    if how is not None and shown is None:
+        words.append(f"open_how of {len(how)} bytes")
+    words = ", ".join(words).replace(":,", ":", 1)
+    case = Case(name, _now["image"] if image is None else image, answer, words, family)
+    case.kind, case.path = 2, path
+    case.how = open_how(flags, resolve) if how is None else how
+    case.mount, case.node, case.mark = at[0], at[1], mark
+    _add(case)
+
+
+def check(name, image, answer, shown, family=None):
+    _add(Case(name, image, answer, shown, family))
+
+
+def in_words(case):
+    if case.kind == 1:
+        rule, record = case.answer
+        return "accepted" if rule == 0 else f"rule {rule}, record {record}"
+    errno, detail, mount, node, components, links = case.answer
+    counts = f"; {components},{links}"
+    if errno == 0:
+        return f"({mount},{node}){counts}"
+    bit = f" {detail}" if detail != 255 else ""
+    return ERRNOS[errno] + bit + counts
