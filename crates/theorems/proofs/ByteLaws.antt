@@ -22,6 +22,19 @@ field-ext zero s t at same = refl
 field-ext (suc width) s t at same =
     rw (same at (omega arith) (omega arith), field-ext width s t (at + 1) (λ i l h. same i (omega arith) (omega arith)))
 
+-- and where two fields of real bytes are the same their bytes are: one law for every width
+pub field-same : (width : ℕ) (s t : List ℕ) (at : ℕ) → ((i : ℕ) → getD s i 0 < 256) → ((i : ℕ) → getD t i 0 < 256)
+    → field width s at ≡ field width t at → (i : ℕ) → at ≤ i → i < at + width → getD s i 0 ≡ getD t i 0
+unfolding field
+field-same zero s t at hs ht e i l u = absurd (omega arith)
+field-same (suc width) s t at hs ht e i l u =
+    let here : getD s at 0 ≡ getD t at 0 = omega (arith, hs at, ht at) in
+    let later : field width s (at + 1) ≡ field width t (at + 1) = omega (arith, hs at, ht at) in
+    ⊎-elim
+    (λ (q : at ≡ i). ap (λ (k : ℕ). getD s k 0) (sym q) ∙ here ∙ ap (λ (k : ℕ). getD t k 0) q)
+    (λ (q : at < i). field-same width s t (at + 1) hs ht later i (omega arith) (omega arith))
+    (eq-or-lt-of-le l)
+
 -- a search is the same where its tests are
 pub find-ext : (p q : ℕ → Bool) (at count : ℕ) → ((i : ℕ) → at ≤ i → p i ≡ q i) → find p at count ≡ find q at count
 unfolding find
