@@ -7,6 +7,7 @@ use crate::bytes::u32_at;
 use crate::bytes::u64_at;
 ghost use mathlib.Core.Path.{_≡_};
 ghost use Prim.Native.Nat.{_≤_, _<_};
+ghost use lib.ListN.{length};
 ghost use Rattle.model.specs.Bytes.{contains, sameBytes, before};
 
 // No early exit: the loop is then compiled to vector code.
@@ -26,11 +27,9 @@ pub fn holds_byte(s: &[u8], b: u8) -> bool
 
 // Byte by byte, for the shortest.
 fn same_bytes(a: &[u8], b: &[u8]) -> bool
+    requires { ⌜ length (now a) ≡ length (now b) ⌝ }
     ensures { λ r. ⌜ r ≡ sameBytes (now (a .entry)) (now (b .entry)) ⌝ }
 {
-    if a.len() != b.len() {
-        return false;
-    }
     let mut i = 0;
     while i < a.len() {
         if a[i] != b[i] {
@@ -41,13 +40,12 @@ fn same_bytes(a: &[u8], b: &[u8]) -> bool
     true
 }
 
-pub fn same(a: &[u8], b: &[u8]) -> bool
+// Whether two strings of one length are the same.
+pub fn same_sized(a: &[u8], b: &[u8]) -> bool
+    requires { ⌜ length (now a) ≡ length (now b) ⌝ }
     ensures { λ r. ⌜ r ≡ sameBytes (now (a .entry)) (now (b .entry)) ⌝ }
 {
     let n = a.len();
-    if n != b.len() {
-        return false;
-    }
     if n < 4 {
         return same_bytes(a, b);
     }
@@ -57,6 +55,15 @@ pub fn same(a: &[u8], b: &[u8]) -> bool
     }
     let at = deciding_eight(a, b, n - 8);
     u64_at(a, at) == u64_at(b, at)
+}
+
+pub fn same(a: &[u8], b: &[u8]) -> bool
+    ensures { λ r. ⌜ r ≡ sameBytes (now (a .entry)) (now (b .entry)) ⌝ }
+{
+    if a.len() != b.len() {
+        return false;
+    }
+    same_sized(a, b)
 }
 
 // Byte by byte, for the shortest.

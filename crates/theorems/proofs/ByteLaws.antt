@@ -3,7 +3,7 @@ use Prim.Native.Nat.{ℕ, zero, suc, _+_, _-_, _*_, _/_, _%_, _^_, _≤_, _<_}
 use mathlib.Core.Bool.{Bool, true, false, cond, not, true≢false}
 use mathlib.Core.List.{List, [], _∷_, _++_}
 use mathlib.Core.Option.{Option, none, some}
-use mathlib.Core.Path.{_≡_, refl, sym, ap, _∙_}
+use mathlib.Core.Path.{_≡_, refl, sym, ap, ap₂, _∙_}
 use native.Mathlib.Omega.{arith}
 use native.Mathlib.Numerals.{add-one}
 use native.Mathlib.Nat.{eq-or-lt-of-le, zero-add, add-zero, suc-add, pow-suc}
@@ -175,3 +175,12 @@ find-absent p at count h = by (find p at count) refl
     by : (o : Option ℕ) → find p at count ≡ o → find p at count ≡ none
     by none f = f
     by (some k) f = let l = find-some p at count k f in absurd (true≢false (sym (l .passes) ∙ h k (l .from) (l .below)))
+
+-- so a search may begin after numbers that do not pass
+pub find-later : (p : ℕ → Bool) (at from end : ℕ) → at ≤ from → from ≤ end → ((i : ℕ) → at ≤ i → i < from → p i ≡ false)
+    → find p at (end - at) ≡ find p from (end - from)
+find-later p at from end l u none-before =
+    let whole : end - at ≡ from - at + (end - from) = omega arith in
+    let there : at + (from - at) ≡ from = omega arith in
+    let low : find p at (from - at) ≡ none = find-absent p at (from - at) (λ i k h. none-before i k (omega arith)) in
+    ap (find p at) whole ∙ find-append p at (from - at) (end - from) ∙ ap₂ orElse low (ap (λ (k : ℕ). find p k (end - from)) there)

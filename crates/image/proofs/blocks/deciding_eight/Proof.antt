@@ -45,7 +45,7 @@ loop-less c = omega arith
 
 -- src/blocks.rt:46:5
 loop-again : tie.Need-loop-again Inv-loop μ-loop
-loop-again c = 
+loop-again c =
     let a = now (c .before .before .before .before .before .before .before .args .a) in
     let b = now (c .before .before .before .before .before .before .before .args .b) in
     let i = c .before .before .before .before .loop .i in

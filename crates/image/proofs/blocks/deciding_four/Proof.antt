@@ -23,7 +23,7 @@ returns c = record { within = omega arith; alike = λ i h. absurd (omega arith);
 
 -- src/blocks.rt:31:1
 returns-2 : tie.Need-returns-2
-returns-2 c = 
+returns-2 c =
     let a = c .before .before .before .before .before .args in
     second-decides 4 (now (a .a)) (now (a .b)) (a .last) (λ k. omega (arith, c .before .before .before .before .shared-slice-known .given k)) (λ k. omega (arith, c .before .before .before .shared-slice-known2 .given k)) (omega arith)
     (sym (c .before .before .u32-at .ensures .0) ∙ c .if1 .left ∙ c .before .u32-at2 .ensures .0)

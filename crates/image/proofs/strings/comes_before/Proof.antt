@@ -40,12 +40,12 @@ big32-at-requires-2 c κs = search needs
 
 -- src/strings.rt:100:13
 returns-2 : tie.Need-returns-2
-returns-2 c = 
+returns-2 c =
     deciding-before 4 (now (c .before .before .before .before .before .before .before .before .before .args .a)) (now (c .before .before .before .before .before .before .before .before .before .args .b)) (λ k. omega (arith, c .before .before .before .before .before .before .before .before .shared-slice-known .given k)) (λ k. omega (arith, c .before .before .before .before .before .before .before .shared-slice-known2 .given k)) _ (c .before .before .before .deciding-four .result) (c .before .before .before .deciding-four .ensures) (c .before .before .big32-at .result) (c .before .big32-at2 .result) (c .before .before .big32-at .ensures .0) (c .before .big32-at2 .ensures .0) (omega arith) (omega arith) (c .if3 .taken)
 
 -- src/strings.rt:102:9
 returns-3 : tie.Need-returns-3
-returns-3 c = 
+returns-3 c =
     deciding-begun 4 (now (c .before .before .before .before .before .before .before .before .before .args .a)) (now (c .before .before .before .before .before .before .before .before .before .args .b)) (λ k. omega (arith, c .before .before .before .before .before .before .before .before .shared-slice-known .given k)) (λ k. omega (arith, c .before .before .before .before .before .before .before .shared-slice-known2 .given k)) _ (c .before .before .before .deciding-four .result) (c .before .before .before .deciding-four .ensures) (c .before .before .big32-at .result) (c .before .big32-at2 .result) (c .before .before .big32-at .ensures .0) (c .before .big32-at2 .ensures .0) (omega arith) (omega arith) (λ h. omega (arith, c .before .before .before .before .before .before .shorter .ensures .2 (omega arith))) (c .if3 .left)
 
 -- src/strings.rt:104:9
@@ -62,12 +62,12 @@ big64-at-requires-2 c κs = search needs
 
 -- src/strings.rt:108:9
 returns-4 : tie.Need-returns-4
-returns-4 c = 
+returns-4 c =
     deciding-before 8 (now (c .before .before .before .before .before .before .before .before .before .args .a)) (now (c .before .before .before .before .before .before .before .before .before .args .b)) (λ k. omega (arith, c .before .before .before .before .before .before .before .before .shared-slice-known .given k)) (λ k. omega (arith, c .before .before .before .before .before .before .before .shared-slice-known2 .given k)) _ (c .before .before .before .deciding-eight .result) (c .before .before .before .deciding-eight .ensures) (c .before .before .big64-at .result) (c .before .big64-at2 .result) (c .before .before .big64-at .ensures .0) (c .before .big64-at2 .ensures .0) (omega arith) (omega arith) (c .if4 .taken)
 
 -- src/strings.rt:88:1
 returns-5 : tie.Need-returns-5
-returns-5 c = 
+returns-5 c =
     deciding-begun 8 (now (c .before .before .before .before .before .before .before .before .before .args .a)) (now (c .before .before .before .before .before .before .before .before .before .args .b)) (λ k. omega (arith, c .before .before .before .before .before .before .before .before .shared-slice-known .given k)) (λ k. omega (arith, c .before .before .before .before .before .before .before .shared-slice-known2 .given k)) _ (c .before .before .before .deciding-eight .result) (c .before .before .before .deciding-eight .ensures) (c .before .before .big64-at .result) (c .before .big64-at2 .result) (c .before .before .big64-at .ensures .0) (c .before .big64-at2 .ensures .0) (omega arith) (omega arith) (λ h. omega (arith, c .before .before .before .before .before .before .shorter .ensures .2 (omega arith))) (c .if4 .left)
 
 pub comes-before-spec : {M : Type 1} → statement M
