@@ -1,5 +1,4 @@
 // Searches over the tree: a name in a directory, the mount on a place, and whether a directory is under a root.
-use image::bytes::u32_at;
 use image::records::Counts;
 use image::records::mount_root;
 use image::records::name_length;
@@ -7,15 +6,15 @@ use image::records::node_count;
 use image::records::node_first;
 use image::records::node_kind;
 use image::records::node_parent;
+use image::records::packed_point;
 use image::search::Search;
 use image::strings::same_sized;
 use image::texts::name;
 ghost use mathlib.Core.Bool.{true};
 ghost use mathlib.Core.Path.{_≡_};
-ghost use Prim.Native.Nat.{ℕ, _+_, _*_, _≤_, _<_};
-ghost use lib.ListN.{length};
+ghost use Prim.Native.Nat.{ℕ, _+_, _≤_, _<_};
 ghost use Rattle.model.specs.Bytes.{sameBytes};
-ghost use Rattle.model.specs.Tree.{treeOf, mountAt, isDirectory, under, lookup, mountOn};
+ghost use Rattle.model.specs.Tree.{treeOf, isDirectory, under, lookup, mountOn};
 ghost use Rattle.model.specs.TableCheck.{tableCheck};
 ghost use Rattle.model.specs.Walk.{placeAt};
 ghost use Rattle.model.specs.declared.Verdict.the-variants.{Accepted};
@@ -76,35 +75,26 @@ pub fn find_entry(image: &[u8], c: Counts, n: usize, wanted: &[u8]) -> Search
     Search::Nowhere
 }
 
-// Where mount 0's parent and point stand, side by side. Those of mount m are 8 m bytes further.
-fn points_at(image: &[u8], c: Counts) -> usize
-    requires { ⌜ Counted (now image) c ⌝ }
-    ensures { λ r. ⌜ (r ≡ mountAt (now (image .entry)) 0 + 2) × (r + 8 * treeOf (now (image .entry)) .mounts ≤ length (now (image .entry)) + 2) ⌝ }
-{
-    22 + 12 * c.nodes
-}
-
-// The mount whose point is a place. A mount hangs in a lower one, and not on that one's root. The search goes by positions, so that
-// its loop keeps no number beside them.
+// The mount whose point is a place: one above the place's own, since a mount hangs in a lower one, and none on that one's root.
+// What is found is cut to 16 bits, which changes no number, so that the loop keeps no record's position beside it.
 pub fn find_mount(image: &[u8], c: Counts, mount: usize, node: usize) -> Search
     requires { ⌜ Counted (now image) c × (tableCheck (now image) ≡ Accepted) × (mount < treeOf (now image) .mounts) × (node < treeOf (now image) .nodes) ⌝ }
     ensures { λ r. ⌜ r ≡ searchOf (mountOn (treeOf (now (image .entry))) (placeAt mount node)) ⌝ }
 {
-    if c.mounts <= mount + 1 {
+    let end = c.mounts;
+    let mut m = mount + 1;
+    if end <= m {
         return Search::Nowhere;
     }
     if node == mount_root(image, c, mount) {
         return Search::Nowhere;
     }
     let wanted = mount + 65536 * node;
-    let base = points_at(image, c);
-    let end = base + 8 * c.mounts;
-    let mut at = base + 8 * (mount + 1);
-    while at < end {
-        if u32_at(image, at) == wanted {
-            return Search::At((at - base) / 8);
+    while m < end {
+        if packed_point(image, c, m) == wanted {
+            return Search::At(m % 65536);
         }
-        at += 8;
+        m += 1;
     }
     Search::Nowhere
 }

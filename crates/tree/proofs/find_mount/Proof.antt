@@ -1,108 +1,84 @@
--- `tree::find_mount` meets its contract. The loop's invariant: the search is that from the mount whose point stands at `at` on.
--- Assumes nothing.
-use Prim.Native.Nat.{ℕ, _+_, _-_, _*_}
+-- `tree::find_mount` meets its contract. The loop's invariant: the search is that from `m` on. Assumes nothing.
+use Prim.Native.Nat.{ℕ, _+_, _-_, _*_, _%_, _≤_}
+use mathlib.Core.Option.{some}
 use mathlib.Core.Path.{_≡_, ap, _∙_, sym}
 use native.Mathlib.Omega.{arith}
 use denote.Ref.{now}
-use Rattle.model.specs.Tree.{treeOf}
+use Rattle.model.specs.Bytes.{find}
+use Rattle.model.specs.Tree.{treeOf, mountOn}
+use Rattle.model.specs.Walk.{placeAt}
 use Rattle.theorems.proofs.Acceptance.{accepted-sound}
-use Rattle.theorems.proofs.ByteLaws.{find-done}
-use Rattle.theorems.proofs.MountLaws.{onPlace, mount-on-above, mount-on-root, Searching, search-begins, search-on, search-here, search-done}
+use Rattle.theorems.proofs.ByteLaws.{find-here, find-on, find-done}
+use Rattle.theorems.proofs.MountLaws.{onPlace, mount-on-above, mount-on-root}
+use Rattle.theorems.proofs.StringLaws.{packed-same, packed-other}
 use Rattle.image.specs.Searches.{searchOf}
 use borrow.Author.Needs.{needs}
 use Rattle.tree.proofs.find_mount.Statement.{statement}
 use Rattle.tree.proofs.find_mount.Tie as tie
 use Rattle.tree.proofs.find_mount.Reads as reads
 use Rattle.tree.proofs.find_mount.Lts as lts
-use Rattle.image.proofs.bytes.u32_at.Reads as u32-at-reads
 use Rattle.image.proofs.records.mount_root.Reads as mount-root-reads
-use Rattle.tree.proofs.points_at.Reads as points-at-reads
+use Rattle.image.proofs.records.packed_point.Reads as packed-point-reads
 
 abbrev Inv-loop : tie.InvT-loop
-Inv-loop image mount node wanted base end at₀ at = (end ≡ base + 8 * treeOf image .mounts) × Searching image mount node base at
+Inv-loop image c mount node end m₀ wanted m = (end ≡ treeOf image .mounts) × (m ≤ end) × (mountOn (treeOf image) (placeAt mount node) ≡ find (onPlace (treeOf image) mount node) m (end - m))
 
 abbrev μ-loop : tie.MeasureT-loop
-μ-loop image mount node wanted base end at₀ at = end - at
+μ-loop image c mount node end m₀ wanted m = end - m
 
--- src/lib.rt:93:20
-add-if1 : tie.Need-add-if1 Inv-loop μ-loop
-add-if1 c = omega arith
+-- src/lib.rt:85:17
+add-m : tie.Need-add-m Inv-loop μ-loop
+add-m c = omega (arith, c .before .pre .0 .sized .few-mounts)
 
--- src/lib.rt:94:9
+-- src/lib.rt:87:9
 returns : tie.Need-returns Inv-loop μ-loop
-returns c = sym (ap searchOf (mount-on-above (treeOf (now (c .before .before .before .args .image))) (accepted-sound (now (c .before .before .before .args .image)) (c .before .before .before .pre .1) .mounts-hold) (c .before .before .before .args .mount) (c .before .before .before .args .node) (c .before .before .before .pre .2) ∙ find-done (onPlace (treeOf (now (c .before .before .before .args .image))) (c .before .before .before .args .mount) (c .before .before .before .args .node)) (c .before .before .before .args .mount + 1) (treeOf (now (c .before .before .before .args .image)) .mounts) (omega (arith, c .before .before .before .pre .0 .mounts-are))))
+returns c = sym (ap searchOf (mount-on-above (treeOf (now (c .before .before .args .image))) (accepted-sound (now (c .before .before .args .image)) (c .before .before .pre .1) .mounts-hold) (c .before .before .args .mount) (c .before .before .args .node) (c .before .before .pre .2) ∙ find-done (onPlace (treeOf (now (c .before .before .args .image))) (c .before .before .args .mount) (c .before .before .args .node)) (c .before .before .args .mount + 1) ((treeOf (now (c .before .before .args .image))) .mounts) (omega (arith, c .before .before .pre .0 .mounts-are))))
 
--- src/lib.rt:96:16
+-- src/lib.rt:89:16
 mount-root-requires : tie.Need-mount-root-requires Inv-loop μ-loop
-mount-root-requires c κs = (c .before .before .before .pre .0, c .before .before .before .pre .2)
+mount-root-requires c κs = (c .before .before .pre .0, c .before .before .pre .2)
+
+-- src/lib.rt:90:9
+returns-2 : tie.Need-returns-2 Inv-loop μ-loop
+returns-2 c = sym (ap searchOf (mount-on-root (treeOf (now (c .before .before .before .before .args .image))) (accepted-sound (now (c .before .before .before .before .args .image)) (c .before .before .before .before .pre .1) .mounts-hold) (c .before .before .before .before .args .mount) (c .before .before .before .before .args .node) (c .before .before .before .before .pre .2) (c .if2 .taken ∙ c .before .mount-root .ensures .0)))
+
+-- src/lib.rt:92:26
+mul-wanted : tie.Need-mul-wanted Inv-loop μ-loop
+mul-wanted c = omega (arith, c .before .before .before .before .pre .0 .sized .few-nodes)
+
+-- src/lib.rt:92:18
+add-wanted : tie.Need-add-wanted Inv-loop μ-loop
+add-wanted c = omega (arith, c .before .before .before .before .pre .0 .sized .few-nodes, c .before .before .before .before .pre .0 .sized .few-mounts)
+
+-- src/lib.rt:93:5
+loop-holds : tie.Need-loop-holds Inv-loop μ-loop
+loop-holds c = (c .before .before .before .before .pre .0 .mounts-are, omega (arith, c .before .before .before .before .pre .0 .mounts-are), mount-on-above (treeOf (now (c .before .before .before .before .args .image))) (accepted-sound (now (c .before .before .before .before .args .image)) (c .before .before .before .before .pre .1) .mounts-hold) (c .before .before .before .before .args .mount) (c .before .before .before .before .args .node) (c .before .before .before .before .pre .2) ∙ ap (λ (k : ℕ). find (onPlace (treeOf (now (c .before .before .before .before .args .image))) (c .before .before .before .before .args .mount) (c .before .before .before .before .args .node)) (c .before .before .before .before .args .mount + 1) (k - (c .before .before .before .before .args .mount + 1))) (sym (c .before .before .before .before .pre .0 .mounts-are)))
+
+-- src/lib.rt:94:12
+packed-point-requires : tie.Need-packed-point-requires Inv-loop μ-loop
+packed-point-requires c κs = (c .before .before .before .before .before .before .pre .0, omega (arith, c .before .loop .inv .0))
+
+-- src/lib.rt:95:13
+returns-3 : tie.Need-returns-3 Inv-loop μ-loop
+returns-3 c =
+    let cut : c .before .before .before .loop .m ≡ c .before .before .before .loop .m % 65536 = omega (arith, c .before .before .before .loop .inv .0, c .before .before .before .before .before .before .before .before .pre .0 .sized .few-mounts) in
+    sym (ap searchOf (c .before .before .before .loop .inv .2 ∙ find-here (onPlace (treeOf (now (c .before .before .before .before .before .before .before .before .args .image))) (c .before .before .before .before .before .before .before .before .args .mount) (c .before .before .before .before .before .before .before .before .args .node)) (c .before .before .before .loop .m) _ (c .before .before .loop-test .taken) (packed-same ((treeOf (now (c .before .before .before .before .before .before .before .before .args .image))) .mountParent (c .before .before .before .loop .m)) ((treeOf (now (c .before .before .before .before .before .before .before .before .args .image))) .mountPoint (c .before .before .before .loop .m)) (c .before .before .before .before .before .before .before .before .args .mount) (c .before .before .before .before .before .before .before .before .args .node) (c .before .packed-point .ensures .1) (omega (arith, c .before .before .before .before .before .before .before .before .pre .0 .sized .few-mounts)) (sym (c .before .packed-point .ensures .0) ∙ c .if3 .taken)) ∙ ap some cut))
 
 -- src/lib.rt:97:9
-returns-2 : tie.Need-returns-2 Inv-loop μ-loop
-returns-2 c = sym (ap searchOf (mount-on-root (treeOf (now (c .before .before .before .before .before .args .image))) (accepted-sound (now (c .before .before .before .before .before .args .image)) (c .before .before .before .before .before .pre .1) .mounts-hold) (c .before .before .before .before .before .args .mount) (c .before .before .before .before .before .args .node) (c .before .before .before .before .before .pre .2) (c .if2 .taken ∙ c .before .mount-root .ensures .0)))
+add-m-2 : tie.Need-add-m-2 Inv-loop μ-loop
+add-m-2 c = omega (arith, c .before .before .before .loop .inv .0, c .before .before .before .before .before .before .before .before .pre .0 .sized .few-mounts)
 
--- src/lib.rt:99:26
-mul-wanted : tie.Need-mul-wanted Inv-loop μ-loop
-mul-wanted c = omega (arith, c .before .before .before .before .before .pre .0 .sized .few-nodes)
-
--- src/lib.rt:99:18
-add-wanted : tie.Need-add-wanted Inv-loop μ-loop
-add-wanted c = omega (arith, c .before .before .before .before .before .pre .0 .sized .few-nodes, c .before .before .before .before .before .pre .0 .sized .few-mounts)
-
--- src/lib.rt:100:9
-points-at-requires : tie.Need-points-at-requires Inv-loop μ-loop
-points-at-requires c κs = c .before .before .before .before .before .pre .0
-
--- src/lib.rt:101:22
-mul-end : tie.Need-mul-end Inv-loop μ-loop
-mul-end c = omega (arith, c .before .before .before .before .before .before .before .pre .0 .mounts-are, c .before .before .before .before .before .before .before .pre .0 .sized .few-mounts)
-
--- src/lib.rt:101:15
-add-end : tie.Need-add-end Inv-loop μ-loop
-add-end c = omega (arith, c .before .before .before .before .before .before .before .pre .0 .mounts-are, c .before .points-at .ensures .1, c .before .before .before .before .before .before .before .pre .0 .sized .small)
-
--- src/lib.rt:102:30
-add-at : tie.Need-add-at Inv-loop μ-loop
-add-at c = omega arith
-
--- src/lib.rt:102:25
-mul-at : tie.Need-mul-at Inv-loop μ-loop
-mul-at c = omega (arith, c .before .before .before .before .before .before .before .pre .0 .sized .few-mounts)
-
--- src/lib.rt:102:18
-add-at-2 : tie.Need-add-at-2 Inv-loop μ-loop
-add-at-2 c = omega (arith, c .before .before .before .before .before .before .before .pre .0 .sized .few-mounts, c .before .points-at .ensures .1, c .before .before .before .before .before .before .before .pre .0 .sized .small)
-
--- src/lib.rt:103:5
-loop-holds : tie.Need-loop-holds Inv-loop μ-loop
-loop-holds c = (ap (λ (m : ℕ). c .before .points-at .result + 8 * m) (c .before .before .before .before .before .before .before .pre .0 .mounts-are), search-begins (now (c .before .before .before .before .before .before .before .args .image)) (c .before .before .before .before .before .before .before .args .mount) (c .before .before .before .before .before .before .before .args .node) (c .before .points-at .result) (accepted-sound (now (c .before .before .before .before .before .before .before .args .image)) (c .before .before .before .before .before .before .before .pre .1) .mounts-hold) (c .before .before .before .before .before .before .before .pre .2) (c .before .points-at .ensures .0))
-
--- src/lib.rt:104:12
-u32-at-requires : tie.Need-u32-at-requires Inv-loop μ-loop
-u32-at-requires c κs = omega (arith, c .before .loop .inv .1 .place, c .before .loop .inv .0, c .before .before .before .points-at .ensures .1)
-
--- src/lib.rt:105:32
-sub-t14 : tie.Need-sub-t14 Inv-loop μ-loop
-sub-t14 c = omega (arith, c .before .before .before .loop .inv .1 .place)
-
--- src/lib.rt:105:13
-returns-3 : tie.Need-returns-3 Inv-loop μ-loop
-returns-3 c = sym (ap searchOf (search-here (now (c .before .before .before .before .before .before .before .before .before .before .before .args .image)) (c .before .before .before .before .before .before .before .before .before .before .before .args .mount) (c .before .before .before .before .before .before .before .before .before .before .before .args .node) (c .before .before .before .before .before .points-at .result) (c .before .before .before .loop .at) (c .before .before .before .loop .inv .1) (c .before .u32-at .result) (c .before .u32-at .ensures .0) (c .before .before .before .before .before .before .before .before .before .before .before .pre .0 .sized) (accepted-sound (now (c .before .before .before .before .before .before .before .before .before .before .before .args .image)) (c .before .before .before .before .before .before .before .before .before .before .before .pre .1) .mounts-hold) (omega (arith, c .before .before .before .loop .inv .0)) (c .before .before .before .before .before .before .before .before .before .before .before .pre .2) (c .if3 .taken)))
-
--- src/lib.rt:107:9
-add-at-3 : tie.Need-add-at-3 Inv-loop μ-loop
-add-at-3 c = omega (arith, c .before .before .before .loop .inv .1 .place, c .before .before .before .loop .inv .0, c .before .before .before .before .before .points-at .ensures .1, c .before .before .before .before .before .before .before .before .before .before .before .pre .0 .sized .small)
-
--- src/lib.rt:103:5
+-- src/lib.rt:93:5
 loop-less : tie.Need-loop-less Inv-loop μ-loop
 loop-less c = omega arith
 
--- src/lib.rt:103:5
+-- src/lib.rt:93:5
 loop-again : tie.Need-loop-again Inv-loop μ-loop
-loop-again c = (c .before .before .before .loop .inv .0, search-on (now (c .before .before .before .before .before .before .before .before .before .before .before .args .image)) (c .before .before .before .before .before .before .before .before .before .before .before .args .mount) (c .before .before .before .before .before .before .before .before .before .before .before .args .node) (c .before .before .before .before .before .points-at .result) (c .before .before .before .loop .at) (c .before .before .before .loop .inv .1) (c .before .u32-at .result) (c .before .u32-at .ensures .0) (omega (arith, c .before .before .before .loop .inv .0)) (c .if3 .left))
+loop-again c = (c .before .before .before .loop .inv .0, omega arith, c .before .before .before .loop .inv .2 ∙ find-on (onPlace (treeOf (now (c .before .before .before .before .before .before .before .before .args .image))) (c .before .before .before .before .before .before .before .before .args .mount) (c .before .before .before .before .before .before .before .before .args .node)) (c .before .before .before .loop .m) _ (c .before .before .loop-test .taken) (packed-other ((treeOf (now (c .before .before .before .before .before .before .before .before .args .image))) .mountParent (c .before .before .before .loop .m)) ((treeOf (now (c .before .before .before .before .before .before .before .before .args .image))) .mountPoint (c .before .before .before .loop .m)) (c .before .before .before .before .before .before .before .before .args .mount) (c .before .before .before .before .before .before .before .before .args .node) (λ e. c .if3 .left (c .before .packed-point .ensures .0 ∙ e))))
 
--- src/lib.rt:89:1
+-- src/lib.rt:80:1
 returns-4 : tie.Need-returns-4 Inv-loop μ-loop
-returns-4 c = sym (ap searchOf (search-done (now (c .before .before .before .before .before .before .before .before .before .args .image)) (c .before .before .before .before .before .before .before .before .before .args .mount) (c .before .before .before .before .before .before .before .before .before .args .node) (c .before .before .before .points-at .result) (c .before .loop .at) (c .before .loop .inv .1) (omega (arith, c .before .loop .inv .0))))
+returns-4 c = sym (ap searchOf (c .before .loop .inv .2 ∙ find-done (onPlace (treeOf (now (c .before .before .before .before .before .before .args .image))) (c .before .before .before .before .before .before .args .mount) (c .before .before .before .before .before .before .args .node)) (c .before .loop .m) _ (c .loop-test .left)))
 
 pub find-mount-spec : {M : Type 1} → statement M
 find-mount-spec =
@@ -110,23 +86,16 @@ find-mount-spec =
     (tie.spec
     Inv-loop
     μ-loop
-    add-if1
+    add-m
     returns
     mount-root-requires
     returns-2
     mul-wanted
     add-wanted
-    points-at-requires
-    mul-end
-    add-end
-    add-at
-    mul-at
-    add-at-2
     loop-holds
-    u32-at-requires
-    sub-t14
+    packed-point-requires
     returns-3
-    add-at-3
+    add-m-2
     loop-less
     loop-again
     returns-4)
