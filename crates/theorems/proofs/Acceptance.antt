@@ -209,6 +209,19 @@ module _ (t : Tree) (mounts : MountsHold t) where
   point-directory zero h = subst (λ (n : ℕ). isDirectory t n ≡ true) (sym (mount-0 h .1)) (root-directory zero h)
   point-directory (suc m) h = both (isDirectory t (t .mountPoint (suc m))) _ (both (isDirectory t (t .mountPoint (suc m)) && under t (t .mountPoint (suc m)) (t .mountRoot (t .mountParent (suc m)))) _ (mount-above m h .1) .0) .0
 
+  pub mount-parent-lower : (m : ℕ) → 1 ≤ m → m < t .mounts → t .mountParent m < m
+  mount-parent-lower zero l h = absurd (omega arith)
+  mount-parent-lower (suc m) l h = mount-above m h .0
+
+  -- no mount hangs on the root of the one it is in
+  pub point-not-root : (m : ℕ) → 1 ≤ m → m < t .mounts → t .mountPoint m ≡ t .mountRoot (t .mountParent m) → ⊥
+  unfolding pointHolds
+  point-not-root zero l h e = absurd (omega arith)
+  point-not-root (suc m) l h e =
+      let p = t .mountPoint (suc m) in
+      let r = t .mountRoot (t .mountParent (suc m)) in
+      true≢false (sym (eq-eqb p r e) ∙ not-true (eqb p r) (both (isDirectory t p && under t p r) (not (eqb p r)) (mount-above m h .1) .1))
+
   pub mount-parent-below : (m : ℕ) → m < t .mounts → t .mountParent m < t .mounts
   mount-parent-below zero h = omega (arith, mount-0 h .0)
   mount-parent-below (suc m) h = omega (arith, mount-above m h .0)

@@ -3,7 +3,7 @@ use Prim.Native.Nat.{ℕ, zero, suc, _+_, _-_, _*_, _/_, _%_, _^_, _≤_, _<_}
 use mathlib.Core.Bool.{Bool, true, false, cond, not, true≢false}
 use mathlib.Core.List.{List, [], _∷_, _++_}
 use mathlib.Core.Option.{Option, none, some}
-use mathlib.Core.Path.{_≡_, refl, sym, ap, _∙_}
+use mathlib.Core.Path.{_≡_, refl, sym, ap, ap₂, _∙_}
 use native.Mathlib.Omega.{arith}
 use native.Mathlib.Numerals.{add-one}
 use native.Mathlib.Nat.{eq-or-lt-of-le, zero-add, add-zero, suc-add, pow-suc}
@@ -21,6 +21,19 @@ unfolding field
 field-ext zero s t at same = refl
 field-ext (suc width) s t at same =
     rw (same at (omega arith) (omega arith), field-ext width s t (at + 1) (λ i l h. same i (omega arith) (omega arith)))
+
+-- and where two fields of real bytes are the same their bytes are: one law for every width
+pub field-same : (width : ℕ) (s t : List ℕ) (at : ℕ) → ((i : ℕ) → getD s i 0 < 256) → ((i : ℕ) → getD t i 0 < 256)
+    → field width s at ≡ field width t at → (i : ℕ) → at ≤ i → i < at + width → getD s i 0 ≡ getD t i 0
+unfolding field
+field-same zero s t at hs ht e i l u = absurd (omega arith)
+field-same (suc width) s t at hs ht e i l u =
+    let here : getD s at 0 ≡ getD t at 0 = omega (arith, hs at, ht at) in
+    let later : field width s (at + 1) ≡ field width t (at + 1) = omega (arith, hs at, ht at) in
+    ⊎-elim
+    (λ (q : at ≡ i). ap (λ (k : ℕ). getD s k 0) (sym q) ∙ here ∙ ap (λ (k : ℕ). getD t k 0) q)
+    (λ (q : at < i). field-same width s t (at + 1) hs ht later i (omega arith) (omega arith))
+    (eq-or-lt-of-le l)
 
 -- a search is the same where its tests are
 pub find-ext : (p q : ℕ → Bool) (at count : ℕ) → ((i : ℕ) → at ≤ i → p i ≡ q i) → find p at count ≡ find q at count
@@ -162,3 +175,12 @@ find-absent p at count h = by (find p at count) refl
     by : (o : Option ℕ) → find p at count ≡ o → find p at count ≡ none
     by none f = f
     by (some k) f = let l = find-some p at count k f in absurd (true≢false (sym (l .passes) ∙ h k (l .from) (l .below)))
+
+-- so a search may begin after numbers that do not pass
+pub find-later : (p : ℕ → Bool) (at from end : ℕ) → at ≤ from → from ≤ end → ((i : ℕ) → at ≤ i → i < from → p i ≡ false)
+    → find p at (end - at) ≡ find p from (end - from)
+find-later p at from end l u none-before =
+    let whole : end - at ≡ from - at + (end - from) = omega arith in
+    let there : at + (from - at) ≡ from = omega arith in
+    let low : find p at (from - at) ≡ none = find-absent p at (from - at) (λ i k h. none-before i k (omega arith)) in
+    ap (find p at) whole ∙ find-append p at (from - at) (end - from) ∙ ap₂ orElse low (ap (λ (k : ℕ). find p k (end - from)) there)

@@ -6,6 +6,7 @@ pub mod StringLaws
 pub mod Acceptance
 pub mod UnderLaws
 pub mod EntryLaws
+pub mod MountLaws
 pub mod Inside
 pub mod Refusals
 pub mod OnlyStops

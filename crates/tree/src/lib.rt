@@ -1,16 +1,19 @@
 // Searches over the tree: a name in a directory, the mount on a place, and whether a directory is under a root.
 use image::records::Counts;
+use image::records::mount_root;
+use image::records::name_length;
 use image::records::node_count;
 use image::records::node_first;
 use image::records::node_kind;
 use image::records::node_parent;
 use image::records::packed_point;
 use image::search::Search;
-use image::strings::same;
+use image::strings::same_sized;
 use image::texts::name;
 ghost use mathlib.Core.Bool.{true};
 ghost use mathlib.Core.Path.{_≡_};
-ghost use Prim.Native.Nat.{ℕ, _<_};
+ghost use Prim.Native.Nat.{ℕ, _+_, _≤_, _<_};
+ghost use Rattle.model.specs.Bytes.{sameBytes};
 ghost use Rattle.model.specs.Tree.{treeOf, isDirectory, under, lookup, mountOn};
 ghost use Rattle.model.specs.TableCheck.{tableCheck};
 ghost use Rattle.model.specs.Walk.{placeAt};
@@ -45,6 +48,17 @@ pub fn is_under(image: &[u8], n: usize, root: usize) -> bool
     k == root
 }
 
+// Whether an entry has the name. Most names differ in length, which is read first.
+fn is_named(image: &[u8], c: Counts, e: usize, wanted: &[u8]) -> bool
+    requires { ⌜ Counted (now image) c × (e < treeOf (now image) .entries) × (treeOf (now image) .nameOffset e + treeOf (now image) .nameLength e ≤ treeOf (now image) .textLength) ⌝ }
+    ensures { λ r. ⌜ r ≡ sameBytes (treeOf (now (image .entry)) .name e) (now (wanted .entry)) ⌝ }
+{
+    if name_length(image, c, e) != wanted.len() {
+        return false;
+    }
+    same_sized(name(image, c, e), wanted)
+}
+
 // The entry of a name in a directory.
 pub fn find_entry(image: &[u8], c: Counts, n: usize, wanted: &[u8]) -> Search
     requires { ⌜ Counted (now image) c × (tableCheck (now image) ≡ Accepted) × (isDirectory (treeOf (now image)) n ≡ true) ⌝ }
@@ -53,7 +67,7 @@ pub fn find_entry(image: &[u8], c: Counts, n: usize, wanted: &[u8]) -> Search
     let mut e = node_first(image, n);
     let end = e + node_count(image, n);
     while e < end {
-        if same(name(image, c, e), wanted) {
+        if is_named(image, c, e, wanted) {
             return Search::At(e);
         }
         e += 1;
@@ -61,17 +75,24 @@ pub fn find_entry(image: &[u8], c: Counts, n: usize, wanted: &[u8]) -> Search
     Search::Nowhere
 }
 
-// The mount whose point is a place.
+// The mount whose point is a place: one above the place's own, since a mount hangs in a lower one, and none on that one's root.
+// What is found is cut to 16 bits, which changes no number, so that the loop keeps no record's position beside it.
 pub fn find_mount(image: &[u8], c: Counts, mount: usize, node: usize) -> Search
     requires { ⌜ Counted (now image) c × (tableCheck (now image) ≡ Accepted) × (mount < treeOf (now image) .mounts) × (node < treeOf (now image) .nodes) ⌝ }
     ensures { λ r. ⌜ r ≡ searchOf (mountOn (treeOf (now (image .entry))) (placeAt mount node)) ⌝ }
 {
-    let wanted = mount + 65536 * node;
     let end = c.mounts;
-    let mut m = 1;
+    let mut m = mount + 1;
+    if end <= m {
+        return Search::Nowhere;
+    }
+    if node == mount_root(image, c, mount) {
+        return Search::Nowhere;
+    }
+    let wanted = mount + 65536 * node;
     while m < end {
         if packed_point(image, c, m) == wanted {
-            return Search::At(m);
+            return Search::At(m % 65536);
         }
         m += 1;
     }

@@ -17,8 +17,7 @@ use Rattle.tree.proofs.find_entry.Reads as reads
 use Rattle.tree.proofs.find_entry.Lts as lts
 use Rattle.image.proofs.records.node_count.Reads as node-count-reads
 use Rattle.image.proofs.records.node_first.Reads as node-first-reads
-use Rattle.image.proofs.strings.same.Reads as same-reads
-use Rattle.image.proofs.texts.name.Reads as name-reads
+use Rattle.tree.proofs.is_named.Reads as is-named-reads
 
 abbrev Inv-loop : tie.InvT-loop
 Inv-loop image c n wanted e₀ end e = (end ≡ treeOf image .first n + treeOf image .count n) × (treeOf image .first n ≤ e) × (e ≤ end) × (lookup (treeOf image) n wanted ≡ find (λ k. sameBytes (treeOf image .name k) wanted) e (end - e))
@@ -48,24 +47,20 @@ loop-holds c =
     (omega (arith, f, c .node-count .ensures .0), omega (arith, f), omega arith, sym (ap₂ (find (λ (k : ℕ). sameBytes (treeOf s .name k) (now (c .before .before .before .before .args .wanted)))) f k))
 
 -- src/lib.rt:46:17
-name-requires : tie.Need-name-requires Inv-loop μ-loop
-name-requires c κs =
+is-named-requires : tie.Need-is-named-requires Inv-loop μ-loop
+is-named-requires c κs =
     let s = now (c .before .before .before .before .before .before .args .image) in
     let sound = accepted-sound s (c .before .before .before .before .before .before .pre .1) in
     let inside = entries-inside (treeOf s) (sound .nodes-hold) (c .before .before .before .before .before .before .args .n) (c .before .before .before .before .before .before .pre .2) in
     let below : c .before .loop .e < treeOf s .entries = omega arith in
     (c .before .before .before .before .before .before .pre .0, below, name-facts (treeOf s) sound (c .before .loop .e) below .0)
 
--- src/lib.rt:46:12
-same-requires : tie.Need-same-requires Inv-loop μ-loop
-same-requires c κs = tt
-
 -- src/lib.rt:47:13
 returns : tie.Need-returns Inv-loop μ-loop
 returns c =
-    let s = now (c .before .before .before .before .before .before .before .before .before .args .image) in
-    let w = now (c .before .before .before .before .before .before .before .before .before .args .wanted) in
-    sym (ap searchOf (c .before .before .before .before .loop .inv .3 ∙ find-here (λ k. sameBytes (treeOf s .name k) w) (c .before .before .before .before .loop .e) _ (c .before .before .before .loop-test .taken) (ap (λ x. sameBytes x w) (sym (c .before .before .name .ensures)) ∙ sym (c .before .same .ensures) ∙ c .if1 .taken)))
+    let s = now (c .before .before .before .before .before .before .before .before .args .image) in
+    let w = now (c .before .before .before .before .before .before .before .before .args .wanted) in
+    sym (ap searchOf (c .before .before .before .loop .inv .3 ∙ find-here (λ k. sameBytes (treeOf s .name k) w) (c .before .before .before .loop .e) _ (c .before .before .loop-test .taken) (sym (c .before .is-named .ensures) ∙ c .if1 .taken)))
 
 -- src/lib.rt:49:9
 add-e : tie.Need-add-e Inv-loop μ-loop
@@ -78,9 +73,9 @@ loop-less c = omega arith
 -- src/lib.rt:45:5
 loop-again : tie.Need-loop-again Inv-loop μ-loop
 loop-again c =
-    let s = now (c .before .before .before .before .before .before .before .before .before .args .image) in
-    let w = now (c .before .before .before .before .before .before .before .before .before .args .wanted) in
-    (c .before .before .before .before .loop .inv .0, omega arith, omega arith, c .before .before .before .before .loop .inv .3 ∙ find-on (λ k. sameBytes (treeOf s .name k) w) (c .before .before .before .before .loop .e) _ (c .before .before .before .loop-test .taken) (ap (λ x. sameBytes x w) (sym (c .before .before .name .ensures)) ∙ sym (c .before .same .ensures) ∙ c .if1 .left))
+    let s = now (c .before .before .before .before .before .before .before .before .args .image) in
+    let w = now (c .before .before .before .before .before .before .before .before .args .wanted) in
+    (c .before .before .before .loop .inv .0, omega arith, omega arith, c .before .before .before .loop .inv .3 ∙ find-on (λ k. sameBytes (treeOf s .name k) w) (c .before .before .before .loop .e) _ (c .before .before .loop-test .taken) (sym (c .before .is-named .ensures) ∙ c .if1 .left))
 
 -- src/lib.rt:39:1
 returns-2 : tie.Need-returns-2 Inv-loop μ-loop
@@ -96,8 +91,7 @@ find-entry-spec =
     node-count-requires
     add-end
     loop-holds
-    name-requires
-    same-requires
+    is-named-requires
     returns
     add-e
     loop-less

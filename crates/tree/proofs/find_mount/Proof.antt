@@ -1,77 +1,84 @@
 -- `tree::find_mount` meets its contract. The loop's invariant: the search is that from `m` on. Assumes nothing.
-use Prim.Native.Nat.{ℕ, _+_, _-_, _*_, _≤_, _<_}
-use mathlib.Core.Bool.{true, _&&_}
-use mathlib.Core.Path.{_≡_, refl, ap, _∙_, sym, subst}
+use Prim.Native.Nat.{ℕ, _+_, _-_, _*_, _%_, _≤_}
+use mathlib.Core.Option.{some}
+use mathlib.Core.Path.{_≡_, ap, _∙_, sym}
 use native.Mathlib.Omega.{arith}
-use borrow.Author.Tests.{eq-eqb, ne-eqb, ltb-true}
-use lib.Dec.{eqb}
 use denote.Ref.{now}
 use Rattle.model.specs.Bytes.{find}
 use Rattle.model.specs.Tree.{treeOf, mountOn}
 use Rattle.model.specs.Walk.{placeAt}
+use Rattle.theorems.proofs.Acceptance.{accepted-sound}
 use Rattle.theorems.proofs.ByteLaws.{find-here, find-on, find-done}
+use Rattle.theorems.proofs.MountLaws.{onPlace, mount-on-above, mount-on-root}
 use Rattle.theorems.proofs.StringLaws.{packed-same, packed-other}
 use Rattle.image.specs.Searches.{searchOf}
+use borrow.Author.Needs.{needs}
 use Rattle.tree.proofs.find_mount.Statement.{statement}
 use Rattle.tree.proofs.find_mount.Tie as tie
 use Rattle.tree.proofs.find_mount.Reads as reads
 use Rattle.tree.proofs.find_mount.Lts as lts
+use Rattle.image.proofs.records.mount_root.Reads as mount-root-reads
 use Rattle.image.proofs.records.packed_point.Reads as packed-point-reads
 
 abbrev Inv-loop : tie.InvT-loop
-Inv-loop image c mount node wanted end m₀ m = (end ≡ treeOf image .mounts) × (1 ≤ m) × (m ≤ end) × (mountOn (treeOf image) (placeAt mount node) ≡ find (λ k. eqb (treeOf image .mountParent k) mount && eqb (treeOf image .mountPoint k) node) m (end - m))
+Inv-loop image c mount node end m₀ wanted m = (end ≡ treeOf image .mounts) × (m ≤ end) × (mountOn (treeOf image) (placeAt mount node) ≡ find (onPlace (treeOf image) mount node) m (end - m))
 
 abbrev μ-loop : tie.MeasureT-loop
-μ-loop image c mount node wanted end m₀ m = end - m
+μ-loop image c mount node end m₀ wanted m = end - m
 
--- src/lib.rt:58:26
-mul-wanted : tie.Need-mul-wanted Inv-loop μ-loop
-mul-wanted c = omega arith
-
--- src/lib.rt:58:18
-add-wanted : tie.Need-add-wanted Inv-loop μ-loop
-add-wanted c = omega arith
-
--- src/lib.rt:61:5
-loop-holds : tie.Need-loop-holds Inv-loop μ-loop
-unfolding mountOn
-loop-holds c =
-    let s = now (c .before .args .image) in
-    (c .before .pre .0 .mounts-are, omega arith, omega (arith, c .before .pre .0 .mounts-are, c .before .pre .0 .sized .some-mount), rw (c .before .pre .0 .mounts-are))
-
--- src/lib.rt:62:12
-packed-point-requires : tie.Need-packed-point-requires Inv-loop μ-loop
-packed-point-requires c κs = omega arith
-
--- src/lib.rt:63:13
-returns : tie.Need-returns Inv-loop μ-loop
-returns c =
-    let t = treeOf (now (c .before .before .before .before .before .args .image)) in
-    let p = c .before .before .before .before .before .args .mount in
-    let n = c .before .before .before .before .before .args .node in
-    sym (ap searchOf (c .before .before .before .loop .inv .3 ∙ find-here (λ k. eqb (t .mountParent k) p && eqb (t .mountPoint k) n) (c .before .before .before .loop .m) _ (c .before .before .loop-test .taken) (packed-same (t .mountParent (c .before .before .before .loop .m)) (t .mountPoint (c .before .before .before .loop .m)) p n (c .before .packed-point .ensures .1) (omega arith) (sym (c .before .packed-point .ensures .0) ∙ c .if1 .taken))))
-
--- src/lib.rt:65:9
+-- src/lib.rt:85:17
 add-m : tie.Need-add-m Inv-loop μ-loop
-add-m c = omega arith
+add-m c = omega (arith, c .before .pre .0 .sized .few-mounts)
 
--- src/lib.rt:61:5
+-- src/lib.rt:87:9
+returns : tie.Need-returns Inv-loop μ-loop
+returns c = sym (ap searchOf (mount-on-above (treeOf (now (c .before .before .args .image))) (accepted-sound (now (c .before .before .args .image)) (c .before .before .pre .1) .mounts-hold) (c .before .before .args .mount) (c .before .before .args .node) (c .before .before .pre .2) ∙ find-done (onPlace (treeOf (now (c .before .before .args .image))) (c .before .before .args .mount) (c .before .before .args .node)) (c .before .before .args .mount + 1) ((treeOf (now (c .before .before .args .image))) .mounts) (omega (arith, c .before .before .pre .0 .mounts-are))))
+
+-- src/lib.rt:89:16
+mount-root-requires : tie.Need-mount-root-requires Inv-loop μ-loop
+mount-root-requires c κs = (c .before .before .pre .0, c .before .before .pre .2)
+
+-- src/lib.rt:90:9
+returns-2 : tie.Need-returns-2 Inv-loop μ-loop
+returns-2 c = sym (ap searchOf (mount-on-root (treeOf (now (c .before .before .before .before .args .image))) (accepted-sound (now (c .before .before .before .before .args .image)) (c .before .before .before .before .pre .1) .mounts-hold) (c .before .before .before .before .args .mount) (c .before .before .before .before .args .node) (c .before .before .before .before .pre .2) (c .if2 .taken ∙ c .before .mount-root .ensures .0)))
+
+-- src/lib.rt:92:26
+mul-wanted : tie.Need-mul-wanted Inv-loop μ-loop
+mul-wanted c = omega (arith, c .before .before .before .before .pre .0 .sized .few-nodes)
+
+-- src/lib.rt:92:18
+add-wanted : tie.Need-add-wanted Inv-loop μ-loop
+add-wanted c = omega (arith, c .before .before .before .before .pre .0 .sized .few-nodes, c .before .before .before .before .pre .0 .sized .few-mounts)
+
+-- src/lib.rt:93:5
+loop-holds : tie.Need-loop-holds Inv-loop μ-loop
+loop-holds c = (c .before .before .before .before .pre .0 .mounts-are, omega (arith, c .before .before .before .before .pre .0 .mounts-are), mount-on-above (treeOf (now (c .before .before .before .before .args .image))) (accepted-sound (now (c .before .before .before .before .args .image)) (c .before .before .before .before .pre .1) .mounts-hold) (c .before .before .before .before .args .mount) (c .before .before .before .before .args .node) (c .before .before .before .before .pre .2) ∙ ap (λ (k : ℕ). find (onPlace (treeOf (now (c .before .before .before .before .args .image))) (c .before .before .before .before .args .mount) (c .before .before .before .before .args .node)) (c .before .before .before .before .args .mount + 1) (k - (c .before .before .before .before .args .mount + 1))) (sym (c .before .before .before .before .pre .0 .mounts-are)))
+
+-- src/lib.rt:94:12
+packed-point-requires : tie.Need-packed-point-requires Inv-loop μ-loop
+packed-point-requires c κs = (c .before .before .before .before .before .before .pre .0, omega (arith, c .before .loop .inv .0))
+
+-- src/lib.rt:95:13
+returns-3 : tie.Need-returns-3 Inv-loop μ-loop
+returns-3 c =
+    let cut : c .before .before .before .loop .m ≡ c .before .before .before .loop .m % 65536 = omega (arith, c .before .before .before .loop .inv .0, c .before .before .before .before .before .before .before .before .pre .0 .sized .few-mounts) in
+    sym (ap searchOf (c .before .before .before .loop .inv .2 ∙ find-here (onPlace (treeOf (now (c .before .before .before .before .before .before .before .before .args .image))) (c .before .before .before .before .before .before .before .before .args .mount) (c .before .before .before .before .before .before .before .before .args .node)) (c .before .before .before .loop .m) _ (c .before .before .loop-test .taken) (packed-same ((treeOf (now (c .before .before .before .before .before .before .before .before .args .image))) .mountParent (c .before .before .before .loop .m)) ((treeOf (now (c .before .before .before .before .before .before .before .before .args .image))) .mountPoint (c .before .before .before .loop .m)) (c .before .before .before .before .before .before .before .before .args .mount) (c .before .before .before .before .before .before .before .before .args .node) (c .before .packed-point .ensures .1) (omega (arith, c .before .before .before .before .before .before .before .before .pre .0 .sized .few-mounts)) (sym (c .before .packed-point .ensures .0) ∙ c .if3 .taken)) ∙ ap some cut))
+
+-- src/lib.rt:97:9
+add-m-2 : tie.Need-add-m-2 Inv-loop μ-loop
+add-m-2 c = omega (arith, c .before .before .before .loop .inv .0, c .before .before .before .before .before .before .before .before .pre .0 .sized .few-mounts)
+
+-- src/lib.rt:93:5
 loop-less : tie.Need-loop-less Inv-loop μ-loop
 loop-less c = omega arith
 
--- src/lib.rt:61:5
+-- src/lib.rt:93:5
 loop-again : tie.Need-loop-again Inv-loop μ-loop
-loop-again c =
-    let t = treeOf (now (c .before .before .before .before .before .args .image)) in
-    let p = c .before .before .before .before .before .args .mount in
-    let n = c .before .before .before .before .before .args .node in
-    (c .before .before .before .loop .inv .0, omega arith, omega arith, c .before .before .before .loop .inv .3 ∙ find-on (λ k. eqb (t .mountParent k) p && eqb (t .mountPoint k) n) (c .before .before .before .loop .m) _ (c .before .before .loop-test .taken) (packed-other (t .mountParent (c .before .before .before .loop .m)) (t .mountPoint (c .before .before .before .loop .m)) p n (λ e. c .if1 .left (c .before .packed-point .ensures .0 ∙ e))))
+loop-again c = (c .before .before .before .loop .inv .0, omega arith, c .before .before .before .loop .inv .2 ∙ find-on (onPlace (treeOf (now (c .before .before .before .before .before .before .before .before .args .image))) (c .before .before .before .before .before .before .before .before .args .mount) (c .before .before .before .before .before .before .before .before .args .node)) (c .before .before .before .loop .m) _ (c .before .before .loop-test .taken) (packed-other ((treeOf (now (c .before .before .before .before .before .before .before .before .args .image))) .mountParent (c .before .before .before .loop .m)) ((treeOf (now (c .before .before .before .before .before .before .before .before .args .image))) .mountPoint (c .before .before .before .loop .m)) (c .before .before .before .before .before .before .before .before .args .mount) (c .before .before .before .before .before .before .before .before .args .node) (λ e. c .if3 .left (c .before .packed-point .ensures .0 ∙ e))))
 
--- src/lib.rt:54:1
-returns-2 : tie.Need-returns-2 Inv-loop μ-loop
-returns-2 c =
-    let t = treeOf (now (c .before .before .before .args .image)) in
-    sym (ap searchOf (c .before .loop .inv .3 ∙ find-done (λ k. eqb (t .mountParent k) (c .before .before .before .args .mount) && eqb (t .mountPoint k) (c .before .before .before .args .node)) (c .before .loop .m) _ (c .loop-test .left)))
+-- src/lib.rt:80:1
+returns-4 : tie.Need-returns-4 Inv-loop μ-loop
+returns-4 c = sym (ap searchOf (c .before .loop .inv .2 ∙ find-done (onPlace (treeOf (now (c .before .before .before .before .before .before .args .image))) (c .before .before .before .before .before .before .args .mount) (c .before .before .before .before .before .before .args .node)) (c .before .loop .m) _ (c .loop-test .left)))
 
 pub find-mount-spec : {M : Type 1} → statement M
 find-mount-spec =
@@ -79,12 +86,16 @@ find-mount-spec =
     (tie.spec
     Inv-loop
     μ-loop
+    add-m
+    returns
+    mount-root-requires
+    returns-2
     mul-wanted
     add-wanted
     loop-holds
     packed-point-requires
-    returns
-    add-m
+    returns-3
+    add-m-2
     loop-less
     loop-again
-    returns-2)
+    returns-4)

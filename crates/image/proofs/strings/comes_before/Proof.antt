@@ -1,90 +1,89 @@
--- `image::strings::comes_before` meets its contract. The loop's invariant: the order of the strings is that of what they hold from `i` on.
--- Assumes nothing.
-use Prim.Native.Nat.{_≤_, _-_}
-use mathlib.Core.Bool.{or-false}
-use native.Mathlib.Nat.{le-of-eq}
-use mathlib.Core.Path.{_≡_, refl, ap, _∙_, sym}
+-- `image::strings::comes_before` meets its contract. Assumes nothing.
 use native.Mathlib.Omega.{arith}
-use borrow.Author.Tests.{eq-eqb, ne-eqb, le-ltb}
-use lib.ListN.{length, drop}
 use denote.Ref.{now}
-use Rattle.model.specs.Bytes.{sameBytes, before}
-use Rattle.theorems.proofs.StringLaws.{before-next, before-short, before-ended}
+use Rattle.image.proofs.BlockLaws.{deciding-before, deciding-begun}
+use borrow.Author.Needs.{needs}
 use Rattle.image.proofs.strings.comes_before.Statement.{statement}
 use Rattle.image.proofs.strings.comes_before.Tie as tie
 use Rattle.image.proofs.strings.comes_before.Reads as reads
 use Rattle.image.proofs.strings.comes_before.Lts as lts
+use Rattle.image.proofs.blocks.big32_at.Reads as big32-at-reads
+use Rattle.image.proofs.blocks.big64_at.Reads as big64-at-reads
+use Rattle.image.proofs.blocks.deciding_eight.Reads as deciding-eight-reads
+use Rattle.image.proofs.blocks.deciding_four.Reads as deciding-four-reads
+use Rattle.image.proofs.strings.before_bytes.Reads as before-bytes-reads
+use Rattle.image.proofs.strings.shorter.Reads as shorter-reads
 
-abbrev Inv-loop : tie.InvT-loop
-Inv-loop a b i₀ i = (i ≤ length a) × (i ≤ length b) × (before a b ≡ before (drop i a) (drop i b))
+-- src/strings.rt:91:9
+shorter-requires : tie.Need-shorter-requires
+shorter-requires c κs = search needs
 
-abbrev μ-loop : tie.MeasureT-loop
-μ-loop a b i₀ i = length a - i
+-- src/strings.rt:93:9
+before-bytes-requires : tie.Need-before-bytes-requires
+before-bytes-requires c κs = search needs
 
--- src/strings.rt:40:5
-loop-holds : tie.Need-loop-holds Inv-loop μ-loop
-loop-holds c = (omega arith, omega arith, refl)
+-- src/strings.rt:93:9
+returns : tie.Need-returns
+returns c = search needs
 
--- src/strings.rt:42:13
-returns : tie.Need-returns Inv-loop μ-loop
-returns c = sym (c .before .before .loop .inv .2 ∙ before-short (now (c .before .before .before .args .a)) (now (c .before .before .before .args .b)) (c .before .before .loop .i) (c .if1 .taken))
+-- src/strings.rt:96:13
+deciding-four-requires : tie.Need-deciding-four-requires
+deciding-four-requires c κs = search needs
 
--- src/strings.rt:44:12
-shared-slice-read-if2 : tie.Need-shared-slice-read-if2 Inv-loop μ-loop
-shared-slice-read-if2 c = omega arith
+-- src/strings.rt:97:13
+big32-at-requires : tie.Need-big32-at-requires
+big32-at-requires c κs = search needs
 
--- src/strings.rt:44:20
-shared-slice-read-if2-2 : tie.Need-shared-slice-read-if2-2 Inv-loop μ-loop
-shared-slice-read-if2-2 c = omega arith
+-- src/strings.rt:98:13
+big32-at-requires-2 : tie.Need-big32-at-requires-2
+big32-at-requires-2 c κs = search needs
 
--- src/strings.rt:45:20
-shared-slice-read-result : tie.Need-shared-slice-read-result Inv-loop μ-loop
-shared-slice-read-result c = omega arith
-
--- src/strings.rt:45:27
-shared-slice-read-result-2 : tie.Need-shared-slice-read-result-2 Inv-loop μ-loop
-shared-slice-read-result-2 c = omega arith
-
--- src/strings.rt:45:13
-returns-2 : tie.Need-returns-2 Inv-loop μ-loop
+-- src/strings.rt:100:13
+returns-2 : tie.Need-returns-2
 returns-2 c =
-    let a = now (c .before .before .before .before .before .before .before .before .args .a) in
-    let b = now (c .before .before .before .before .before .before .before .before .args .b) in
-    sym (c .before .before .before .before .before .before .before .loop .inv .2 ∙ before-next a b (c .before .before .before .before .before .before .before .loop .i) (c .before .before .before .before .before .before .loop-test .taken) (c .before .before .before .before .before .if1 .left) ∙ rw (ne-eqb _ _ (c .before .before .if2 .taken)) (or-false _))
+    deciding-before 4 (now (c .before .before .before .before .before .before .before .before .before .args .a)) (now (c .before .before .before .before .before .before .before .before .before .args .b)) (λ k. omega (arith, c .before .before .before .before .before .before .before .before .shared-slice-known .given k)) (λ k. omega (arith, c .before .before .before .before .before .before .before .shared-slice-known2 .given k)) _ (c .before .before .before .deciding-four .result) (c .before .before .before .deciding-four .ensures) (c .before .before .big32-at .result) (c .before .big32-at2 .result) (c .before .before .big32-at .ensures .0) (c .before .big32-at2 .ensures .0) (omega arith) (omega arith) (c .if3 .taken)
 
--- src/strings.rt:47:9
-add-i : tie.Need-add-i Inv-loop μ-loop
-add-i c = omega arith
+-- src/strings.rt:102:9
+returns-3 : tie.Need-returns-3
+returns-3 c =
+    deciding-begun 4 (now (c .before .before .before .before .before .before .before .before .before .args .a)) (now (c .before .before .before .before .before .before .before .before .before .args .b)) (λ k. omega (arith, c .before .before .before .before .before .before .before .before .shared-slice-known .given k)) (λ k. omega (arith, c .before .before .before .before .before .before .before .shared-slice-known2 .given k)) _ (c .before .before .before .deciding-four .result) (c .before .before .before .deciding-four .ensures) (c .before .before .big32-at .result) (c .before .big32-at2 .result) (c .before .before .big32-at .ensures .0) (c .before .big32-at2 .ensures .0) (omega arith) (omega arith) (λ h. omega (arith, c .before .before .before .before .before .before .shorter .ensures .2 (omega arith))) (c .if3 .left)
 
--- src/strings.rt:40:5
-loop-less : tie.Need-loop-less Inv-loop μ-loop
-loop-less c = omega arith
+-- src/strings.rt:104:9
+deciding-eight-requires : tie.Need-deciding-eight-requires
+deciding-eight-requires c κs = search needs
 
--- src/strings.rt:40:5
-loop-again : tie.Need-loop-again Inv-loop μ-loop
-loop-again c =
-    let a = now (c .before .before .before .before .before .before .args .a) in
-    let b = now (c .before .before .before .before .before .before .args .b) in
-    (omega arith, omega arith, c .before .before .before .before .before .loop .inv .2 ∙ before-next a b (c .before .before .before .before .before .loop .i) (c .before .before .before .before .loop-test .taken) (c .before .before .before .if1 .left) ∙ rw (le-ltb _ _ (le-of-eq (sym (c .if2 .left))), eq-eqb _ _ (c .if2 .left)))
+-- src/strings.rt:105:9
+big64-at-requires : tie.Need-big64-at-requires
+big64-at-requires c κs = search needs
 
--- src/strings.rt:36:1
-returns-3 : tie.Need-returns-3 Inv-loop μ-loop
-returns-3 c = sym (c .before .loop .inv .2 ∙ before-ended (now (c .before .before .args .a)) (now (c .before .before .args .b)) (c .before .loop .i) (c .loop-test .left))
+-- src/strings.rt:106:9
+big64-at-requires-2 : tie.Need-big64-at-requires-2
+big64-at-requires-2 c κs = search needs
+
+-- src/strings.rt:108:9
+returns-4 : tie.Need-returns-4
+returns-4 c =
+    deciding-before 8 (now (c .before .before .before .before .before .before .before .before .before .args .a)) (now (c .before .before .before .before .before .before .before .before .before .args .b)) (λ k. omega (arith, c .before .before .before .before .before .before .before .before .shared-slice-known .given k)) (λ k. omega (arith, c .before .before .before .before .before .before .before .shared-slice-known2 .given k)) _ (c .before .before .before .deciding-eight .result) (c .before .before .before .deciding-eight .ensures) (c .before .before .big64-at .result) (c .before .big64-at2 .result) (c .before .before .big64-at .ensures .0) (c .before .big64-at2 .ensures .0) (omega arith) (omega arith) (c .if4 .taken)
+
+-- src/strings.rt:88:1
+returns-5 : tie.Need-returns-5
+returns-5 c =
+    deciding-begun 8 (now (c .before .before .before .before .before .before .before .before .before .args .a)) (now (c .before .before .before .before .before .before .before .before .before .args .b)) (λ k. omega (arith, c .before .before .before .before .before .before .before .before .shared-slice-known .given k)) (λ k. omega (arith, c .before .before .before .before .before .before .before .shared-slice-known2 .given k)) _ (c .before .before .before .deciding-eight .result) (c .before .before .before .deciding-eight .ensures) (c .before .before .big64-at .result) (c .before .big64-at2 .result) (c .before .before .big64-at .ensures .0) (c .before .big64-at2 .ensures .0) (omega arith) (omega arith) (λ h. omega (arith, c .before .before .before .before .before .before .shorter .ensures .2 (omega arith))) (c .if4 .left)
 
 pub comes-before-spec : {M : Type 1} → statement M
 comes-before-spec =
     tie.close
     (tie.spec
-    Inv-loop
-    μ-loop
-    loop-holds
+    shorter-requires
+    before-bytes-requires
     returns
-    shared-slice-read-if2
-    shared-slice-read-if2-2
-    shared-slice-read-result
-    shared-slice-read-result-2
+    deciding-four-requires
+    big32-at-requires
+    big32-at-requires-2
     returns-2
-    add-i
-    loop-less
-    loop-again
-    returns-3)
+    returns-3
+    deciding-eight-requires
+    big64-at-requires
+    big64-at-requires-2
+    returns-4
+    returns-5)

@@ -1,78 +1,24 @@
--- `image::strings::same` meets its contract. The loop's invariant: the strings are the same if they are from `i` on. Assumes nothing.
-use Prim.Native.Nat.{_≤_, _-_}
-use mathlib.Core.Bool.{_||_, true}
-use mathlib.Core.Path.{_≡_, refl, ap, _∙_, sym}
-use native.Mathlib.Omega.{arith}
-use borrow.Author.Tests.{eq-eqb, ne-eqb}
-use lib.ListN.{length, drop}
+use mathlib.Core.Path.{sym}
 use denote.Ref.{now}
-use Rattle.model.specs.Bytes.{sameBytes, before}
-use Rattle.theorems.proofs.StringLaws.{differing, same-next, same-end}
+use Rattle.theorems.proofs.StringLaws.{differing}
+use borrow.Author.Needs.{needs}
 use Rattle.image.proofs.strings.same.Statement.{statement}
 use Rattle.image.proofs.strings.same.Tie as tie
 use Rattle.image.proofs.strings.same.Reads as reads
 use Rattle.image.proofs.strings.same.Lts as lts
+use Rattle.image.proofs.strings.same_sized.Reads as same-sized-reads
 
-abbrev Inv-loop : tie.InvT-loop
-Inv-loop a b i₀ i = (i ≤ length a) × (length a ≡ length b) × (sameBytes a b ≡ sameBytes (drop i a) (drop i b))
+-- src/strings.rt:64:9
+returns : tie.Need-returns
+returns c = sym (differing (now (c .before .before .before .args .a)) (now (c .before .before .before .args .b)) (c .if1 .taken))
 
-abbrev μ-loop : tie.MeasureT-loop
-μ-loop a b i₀ i = length a - i
+-- src/strings.rt:66:5
+same-sized-requires : tie.Need-same-sized-requires
+same-sized-requires c κs = search needs
 
--- src/strings.rt:24:9
-returns : tie.Need-returns Inv-loop μ-loop
-returns c = sym (differing (now (c .before .args .a)) (now (c .before .args .b)) (c .if1 .taken))
-
--- src/strings.rt:27:5
-loop-holds : tie.Need-loop-holds Inv-loop μ-loop
-loop-holds c = (omega arith, c .if1 .left, refl)
-
--- src/strings.rt:28:12
-shared-slice-read-if2 : tie.Need-shared-slice-read-if2 Inv-loop μ-loop
-shared-slice-read-if2 c = omega arith
-
--- src/strings.rt:28:20
-shared-slice-read-if2-2 : tie.Need-shared-slice-read-if2-2 Inv-loop μ-loop
-shared-slice-read-if2-2 c = omega arith
-
--- src/strings.rt:29:13
-returns-2 : tie.Need-returns-2 Inv-loop μ-loop
-returns-2 c =
-    let a = now (c .before .before .before .before .before .before .args .a) in
-    let b = now (c .before .before .before .before .before .before .args .b) in
-    sym (c .before .before .before .before .loop .inv .2 ∙ same-next a b (c .before .before .before .before .loop .i) (c .before .before .before .loop-test .taken) (omega arith) ∙ rw (ne-eqb _ _ (c .if2 .taken)))
-
--- src/strings.rt:31:9
-add-i : tie.Need-add-i Inv-loop μ-loop
-add-i c = omega arith
-
--- src/strings.rt:27:5
-loop-less : tie.Need-loop-less Inv-loop μ-loop
-loop-less c = omega arith
-
--- src/strings.rt:27:5
-loop-again : tie.Need-loop-again Inv-loop μ-loop
-loop-again c =
-    let a = now (c .before .before .before .before .before .before .args .a) in
-    let b = now (c .before .before .before .before .before .before .args .b) in
-    (omega arith, c .before .before .before .before .loop .inv .1, c .before .before .before .before .loop .inv .2 ∙ same-next a b (c .before .before .before .before .loop .i) (c .before .before .before .loop-test .taken) (omega arith) ∙ rw (eq-eqb _ _ (c .if2 .left)))
-
--- src/strings.rt:20:1
-returns-3 : tie.Need-returns-3 Inv-loop μ-loop
-returns-3 c = sym (c .before .loop .inv .2 ∙ same-end (now (c .before .before .before .args .a)) (now (c .before .before .before .args .b)) (c .before .loop .i) (c .loop-test .left) (omega arith))
+-- src/strings.rt:60:1
+returns-2 : tie.Need-returns-2
+returns-2 c = search needs
 
 pub same-spec : {M : Type 1} → statement M
-same-spec =
-    tie.close
-    (tie.spec
-    Inv-loop
-    μ-loop
-    returns
-    loop-holds
-    shared-slice-read-if2
-    shared-slice-read-if2-2
-    returns-2
-    add-i
-    loop-less
-    loop-again
-    returns-3)
+same-spec = tie.close (tie.spec returns same-sized-requires returns-2)

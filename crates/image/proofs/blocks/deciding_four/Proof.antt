@@ -1,0 +1,32 @@
+use mathlib.Core.Path.{sym, _∙_}
+use denote.Ref.{now}
+use Rattle.image.proofs.BlockLaws.{second-decides}
+use native.Mathlib.Omega.{arith}
+use borrow.Author.Needs.{needs}
+use Rattle.image.proofs.blocks.deciding_four.Statement.{statement}
+use Rattle.image.proofs.blocks.deciding_four.Tie as tie
+use Rattle.image.proofs.blocks.deciding_four.Reads as reads
+use Rattle.image.proofs.blocks.deciding_four.Lts as lts
+use Rattle.image.proofs.bytes.u32_at.Reads as u32-at-reads
+
+-- src/blocks.rt:35:8
+u32-at-requires : tie.Need-u32-at-requires
+u32-at-requires c κs = search needs
+
+-- src/blocks.rt:35:24
+u32-at-requires-2 : tie.Need-u32-at-requires-2
+u32-at-requires-2 c κs = search needs
+
+-- src/blocks.rt:36:9
+returns : tie.Need-returns
+returns c = record { within = omega arith; alike = λ i h. absurd (omega arith); differs = λ l e. c .if1 .taken (c .before .before .u32-at .ensures .0 ∙ e ∙ sym (c .before .u32-at2 .ensures .0)) }
+
+-- src/blocks.rt:31:1
+returns-2 : tie.Need-returns-2
+returns-2 c =
+    let a = c .before .before .before .before .before .args in
+    second-decides 4 (now (a .a)) (now (a .b)) (a .last) (λ k. omega (arith, c .before .before .before .before .shared-slice-known .given k)) (λ k. omega (arith, c .before .before .before .shared-slice-known2 .given k)) (omega arith)
+    (sym (c .before .before .u32-at .ensures .0) ∙ c .if1 .left ∙ c .before .u32-at2 .ensures .0)
+
+pub deciding-four-spec : {M : Type 1} → statement M
+deciding-four-spec = tie.close (tie.spec u32-at-requires u32-at-requires-2 returns returns-2)

@@ -1,0 +1,73 @@
+-- `image::strings::same_bytes` meets its contract. The loop's invariant: the strings are the same if they are from `i` on. Assumes nothing.
+use Prim.Native.Nat.{_≤_, _-_}
+use mathlib.Core.Bool.{_||_, true}
+use mathlib.Core.Path.{_≡_, refl, ap, _∙_, sym}
+use native.Mathlib.Omega.{arith}
+use borrow.Author.Tests.{eq-eqb, ne-eqb}
+use lib.ListN.{length, drop}
+use denote.Ref.{now}
+use Rattle.model.specs.Bytes.{sameBytes, before}
+use Rattle.theorems.proofs.StringLaws.{same-next, same-end}
+use Rattle.image.proofs.strings.same_bytes.Statement.{statement}
+use Rattle.image.proofs.strings.same_bytes.Tie as tie
+use Rattle.image.proofs.strings.same_bytes.Reads as reads
+use Rattle.image.proofs.strings.same_bytes.Lts as lts
+
+abbrev Inv-loop : tie.InvT-loop
+Inv-loop a b i₀ i = (i ≤ length a) × (length a ≡ length b) × (sameBytes a b ≡ sameBytes (drop i a) (drop i b))
+
+abbrev μ-loop : tie.MeasureT-loop
+μ-loop a b i₀ i = length a - i
+
+-- src/strings.rt:27:5
+loop-holds : tie.Need-loop-holds Inv-loop μ-loop
+loop-holds c = (omega arith, c .pre, refl)
+
+-- src/strings.rt:28:12
+shared-slice-read-if1 : tie.Need-shared-slice-read-if1 Inv-loop μ-loop
+shared-slice-read-if1 c = omega arith
+
+-- src/strings.rt:28:20
+shared-slice-read-if1-2 : tie.Need-shared-slice-read-if1-2 Inv-loop μ-loop
+shared-slice-read-if1-2 c = omega arith
+
+-- src/strings.rt:29:13
+returns : tie.Need-returns Inv-loop μ-loop
+returns c =
+    let a = now (c .before .before .before .before .before .args .a) in
+    let b = now (c .before .before .before .before .before .args .b) in
+    sym (c .before .before .before .before .loop .inv .2 ∙ same-next a b (c .before .before .before .before .loop .i) (c .before .before .before .loop-test .taken) (omega arith) ∙ rw (ne-eqb _ _ (c .if1 .taken)))
+
+-- src/strings.rt:31:9
+add-i : tie.Need-add-i Inv-loop μ-loop
+add-i c = omega arith
+
+-- src/strings.rt:27:5
+loop-less : tie.Need-loop-less Inv-loop μ-loop
+loop-less c = omega arith
+
+-- src/strings.rt:27:5
+loop-again : tie.Need-loop-again Inv-loop μ-loop
+loop-again c =
+    let a = now (c .before .before .before .before .before .args .a) in
+    let b = now (c .before .before .before .before .before .args .b) in
+    (omega arith, c .before .before .before .before .loop .inv .1, c .before .before .before .before .loop .inv .2 ∙ same-next a b (c .before .before .before .before .loop .i) (c .before .before .before .loop-test .taken) (omega arith) ∙ rw (eq-eqb _ _ (c .if1 .left)))
+
+-- src/strings.rt:20:1
+returns-2 : tie.Need-returns-2 Inv-loop μ-loop
+returns-2 c = sym (c .before .loop .inv .2 ∙ same-end (now (c .before .before .args .a)) (now (c .before .before .args .b)) (c .before .loop .i) (c .loop-test .left) (omega arith))
+
+pub same-bytes-spec : {M : Type 1} → statement M
+same-bytes-spec =
+    tie.close
+    (tie.spec
+    Inv-loop
+    μ-loop
+    loop-holds
+    shared-slice-read-if1
+    shared-slice-read-if1-2
+    returns
+    add-i
+    loop-less
+    loop-again
+    returns-2)
