@@ -14,7 +14,7 @@ use image::strings::comes_before;
 use image::texts::name;
 ghost use mathlib.Core.Bool.{true};
 ghost use mathlib.Core.Path.{_≡_};
-ghost use Prim.Native.Nat.{ℕ, _+_, _-_, _≤_, _<_};
+ghost use Prim.Native.Nat.{_+_, _-_, _<_};
 ghost use Rattle.model.specs.Tree.{treeOf, isDirectory};
 ghost use Rattle.model.specs.TableCheck.{countsBefore, nameHolds, ascends, standsInParent, entryHolds, rule5};
 ghost use Rattle.theorems.specs.Acceptance.{Sized, NodesHold};

@@ -9,13 +9,13 @@ use image::search::Search;
 use tree::is_directory;
 use tree::is_under;
 ghost use mathlib.Core.Path.{_≡_};
-ghost use Prim.Native.Nat.{ℕ, _+_, _≤_, _<_};
-ghost use Rattle.model.specs.Tree.{treeOf, isDirectory};
+ghost use Prim.Native.Nat.{_+_, _<_};
+ghost use lib.ListN.{length};
+ghost use Rattle.model.specs.Tree.{treeOf};
 ghost use Rattle.model.specs.TableCheck.{pointHolds, sharesPoint, hangs, mountHolds, rule6};
 ghost use Rattle.theorems.specs.Acceptance.{NodesHold};
 ghost use Rattle.image.specs.Counts.{Counted};
 ghost use Rattle.image.specs.Searches.{searchOf};
-ghost use lib.ListN.{length};
 ghost use Rattle.table_mounts.specs.Points.{Noted};
 
 // A byte for each node that a table can have.
@@ -119,6 +119,7 @@ fn mount_holds(image: &[u8], c: Counts, points: &[u8], m: usize) -> bool
     mount_hangs(image, c, points, m)
 }
 
+// Whatever the bytes are at first: one that is set needlessly only costs a search.
 fn first_bad(image: &[u8], c: Counts, points: &mut [u8]) -> Search
     requires { ⌜ Counted (now image) c × NodesHold (treeOf (now image)) ⌝ }
     ensures { λ r. ⌜ r ≡ searchOf (rule6 (treeOf (now (image .entry)))) ⌝ }

@@ -10,7 +10,7 @@ use image::records::node_parent;
 use image::search::Search;
 ghost use mathlib.Core.Bool.{true};
 ghost use mathlib.Core.Path.{_≡_};
-ghost use Prim.Native.Nat.{ℕ, _≤_, _<_};
+ghost use Prim.Native.Nat.{_≤_, _<_};
 ghost use lib.ListN.{length};
 ghost use Rattle.model.specs.Tree.{treeOf, isDirectory, under};
 ghost use Rattle.model.specs.TableCheck.{rule7, magicTargetHolds};

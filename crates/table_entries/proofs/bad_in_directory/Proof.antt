@@ -1,3 +1,6 @@
+-- `table_entries::bad_in_directory` meets its contract. The loop's invariant: the lowest bad entry of the directory is the lowest from `e` on, and the
+-- name before `e` keeps its sentence.
+-- Assumes nothing.
 use Prim.Native.Nat.{ℕ, _+_, _-_, _≤_, _<_}
 use mathlib.Core.Bool.{true, not}
 use mathlib.Core.Path.{_≡_, ap, ap₂, _∙_, sym, subst}
@@ -5,7 +8,6 @@ use native.Mathlib.Nat.{lt-irrefl}
 use native.Mathlib.Omega.{arith}
 use borrow.Author.Tests.{not-false}
 use denote.Ref.{now}
-use Rattle.model.specs.Bytes.{before}
 use Rattle.model.specs.Tree.{treeOf}
 use Rattle.model.specs.TableCheck.{nameHolds, entryHolds}
 use Rattle.theorems.proofs.Acceptance.{directory-below}

@@ -1,8 +1,9 @@
+-- `table_entries::bad_in_node` meets its contract: a node that is no directory has no entries. Assumes nothing.
 use mathlib.Core.Path.{_≡_, ap, _∙_, sym}
 use native.Mathlib.Omega.{arith}
 use borrow.Author.Tests.{eq-eqb, ne-eqb}
 use denote.Ref.{now}
-use Rattle.model.specs.Bytes.{find, before}
+use Rattle.model.specs.Bytes.{find}
 use Rattle.model.specs.Tree.{treeOf}
 use Rattle.model.specs.TableCheck.{directoryCount}
 use Rattle.theorems.proofs.Acceptance.{first-sum}

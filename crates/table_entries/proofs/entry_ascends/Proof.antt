@@ -1,3 +1,4 @@
+-- `table_entries::entry_ascends` meets its contract: a directory's first entry has none before it. Assumes nothing.
 use borrow.Author.Needs.{needs}
 use Prim.Native.Nat.{_-_}
 use mathlib.Core.Path.{ap₂, _∙_, sym}

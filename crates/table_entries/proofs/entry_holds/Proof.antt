@@ -1,9 +1,9 @@
+-- `table_entries::entry_holds` meets its contract: each return is a sentence of the rule that fails, or the last one. Assumes nothing.
 use mathlib.Core.Bool.{and-false}
 use mathlib.Core.Path.{_∙_, sym}
 use native.Mathlib.Omega.{arith}
 use borrow.Author.Tests.{lt-ltb, le-ltb, not-true, not-false}
 use denote.Ref.{now}
-use Rattle.model.specs.Bytes.{before}
 use Rattle.model.specs.Tree.{treeOf}
 use Rattle.model.specs.TableCheck.{entryHolds}
 use Rattle.theorems.proofs.Acceptance.{entries-inside}

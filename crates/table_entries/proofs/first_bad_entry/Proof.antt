@@ -1,10 +1,11 @@
+-- `table_entries::first_bad_entry` meets its contract. The loop's invariant: the lowest bad entry is the lowest from the entries of node `n` on.
+-- Assumes nothing.
 use Prim.Native.Nat.{_+_, _-_, _≤_}
 use mathlib.Core.Bool.{not}
 use mathlib.Core.Option.{some, none}
 use mathlib.Core.Path.{_≡_, ap, _∙_, sym}
 use native.Mathlib.Omega.{arith}
 use denote.Ref.{now}
-use Rattle.model.specs.Bytes.{before}
 use Rattle.model.specs.Tree.{treeOf}
 use Rattle.model.specs.TableCheck.{countsBefore, entryHolds, rule5}
 use Rattle.theorems.proofs.ByteLaws.{find-done}

@@ -1,3 +1,4 @@
+-- `table_entries::stands_in_parent` meets its contract: the directory that holds the entry is known, so that it is not searched. Assumes nothing.
 use borrow.Author.Needs.{needs}
 use mathlib.Core.Bool.{true}
 use mathlib.Core.Path.{_≡_, ap, ap₂, _∙_, sym}
@@ -5,7 +6,6 @@ use native.Mathlib.Omega.{arith}
 use borrow.Author.Tests.{eq-eqb, ne-eqb}
 use lib.Dec.{ltb}
 use denote.Ref.{now}
-use Rattle.model.specs.Bytes.{before}
 use Rattle.model.specs.Tree.{treeOf, isDirectory}
 use Rattle.theorems.proofs.EntryLaws.{directory-stands, other-stands, is-directory, not-directory}
 use Rattle.table_entries.proofs.stands_in_parent.Statement.{statement}

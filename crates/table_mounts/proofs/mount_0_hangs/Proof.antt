@@ -1,3 +1,4 @@
+-- `table_mounts::mount_0_hangs` meets its contract. Assumes nothing.
 use borrow.Author.Needs.{needs}
 use mathlib.Core.Path.{ap₂, _∙_, sym}
 use borrow.Author.Tests.{eq-eqb, ne-eqb}

@@ -1,3 +1,4 @@
+-- `table_mounts::mount_hangs` meets its contract: each return is a part of the sentence that fails, or the last one. Assumes nothing.
 use borrow.Author.Needs.{needs}
 use mathlib.Core.Bool.{not, and-false}
 use mathlib.Core.Path.{ap, _∙_, sym}

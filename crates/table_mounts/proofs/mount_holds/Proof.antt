@@ -1,3 +1,4 @@
+-- `table_mounts::mount_holds` meets its contract: each return is a sentence of the rule that fails, or the last one. Assumes nothing.
 use borrow.Author.Needs.{needs}
 use mathlib.Core.Bool.{and-false}
 use mathlib.Core.Path.{ap, _∙_, sym}

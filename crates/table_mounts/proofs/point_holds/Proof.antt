@@ -1,3 +1,4 @@
+-- `table_mounts::point_holds` meets its contract: each return is a part of the sentence that fails, or the last one. Assumes nothing.
 use borrow.Author.Needs.{needs}
 use mathlib.Core.Bool.{and-false, and-true}
 use mathlib.Core.Path.{_≡_, ap, ap₂, _∙_, sym}

@@ -1,3 +1,5 @@
+-- `table_mounts::shares_point` meets its contract. The loop's invariant: an earlier mount shares the point if one from `k` on does.
+-- Assumes nothing.
 use Prim.Native.Nat.{_+_, _-_, _*_, _^_, _≤_, _<_}
 use mathlib.Core.Bool.{_&&_}
 use mathlib.Core.Path.{_≡_, refl, ap, _∙_, sym}

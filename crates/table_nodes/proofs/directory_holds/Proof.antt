@@ -1,3 +1,4 @@
+-- `table_nodes::directory_holds` meets its contract: a parent that is numbered no higher than the node is a node too. Assumes nothing.
 use borrow.Author.Needs.{needs}
 use mathlib.Core.Bool.{and-false}
 use mathlib.Core.Path.{ap, ap₂, _∙_, sym}

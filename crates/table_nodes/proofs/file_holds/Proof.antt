@@ -1,3 +1,4 @@
+-- `table_nodes::file_holds` meets its contract: each return is a field that is not 0, or the last one. Assumes nothing.
 use borrow.Author.Needs.{needs}
 use Prim.Native.Nat.{ℕ}
 use mathlib.Core.Bool.{and-false}

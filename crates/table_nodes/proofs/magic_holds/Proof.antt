@@ -1,3 +1,4 @@
+-- `table_nodes::magic_holds` meets its contract. Assumes nothing.
 use borrow.Author.Needs.{needs}
 use Prim.Native.Nat.{ℕ}
 use mathlib.Core.Path.{ap}

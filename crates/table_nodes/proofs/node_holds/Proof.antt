@@ -1,3 +1,4 @@
+-- `table_nodes::node_holds` meets its contract: each arm of the match is the kind's sentence. Assumes nothing.
 use borrow.Author.Needs.{needs}
 use mathlib.Core.Path.{_∙_, sym}
 use borrow.Author.Tests.{ne-eqb}

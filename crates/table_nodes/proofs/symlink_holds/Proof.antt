@@ -1,3 +1,4 @@
+-- `table_nodes::symlink_holds` meets its contract: each return is a part of the sentence that fails, or the last one. Assumes nothing.
 use borrow.Author.Needs.{needs}
 use Prim.Native.Nat.{_+_}
 use mathlib.Core.Bool.{not, and-false}

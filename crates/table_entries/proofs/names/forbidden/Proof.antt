@@ -1,5 +1,5 @@
+-- `table_entries::names::forbidden` meets its contract. Assumes nothing.
 use borrow.Author.Tests.{eq-eqb, ne-eqb}
-use Rattle.model.specs.Bytes.{before}
 use Rattle.table_entries.proofs.names.forbidden.Statement.{statement}
 use Rattle.table_entries.proofs.names.forbidden.Tie as tie
 

@@ -1,7 +1,7 @@
+-- `table_entries::names::is_dots` meets its contract: each return is a case of the length and the first byte. Assumes nothing.
 use borrow.Author.Needs.{needs}
 use mathlib.Core.Path.{sym}
 use denote.Ref.{now}
-use Rattle.model.specs.Bytes.{before}
 use Rattle.table_entries.proofs.NameLaws.{dots-other, dots-one, dots-long, dots-two}
 use Rattle.table_entries.proofs.names.is_dots.Statement.{statement}
 use Rattle.table_entries.proofs.names.is_dots.Tie as tie

@@ -1,3 +1,4 @@
+-- `table_entries::names::name_holds` meets its contract: each return is a test of the name that fails, or the last one. Assumes nothing.
 use borrow.Author.Needs.{needs}
 use Prim.Native.Nat.{_+_}
 use mathlib.Core.Bool.{not, and-false}
@@ -6,7 +7,6 @@ use native.Mathlib.Omega.{arith}
 use borrow.Author.Tests.{le-leb, lt-leb}
 use lib.ListN.{length}
 use denote.Ref.{now}
-use Rattle.model.specs.Bytes.{before}
 use Rattle.model.specs.Tree.{treeOf}
 use Rattle.theorems.proofs.Acceptance.{name-whole}
 use Rattle.table_entries.proofs.NameLaws.{forbids, dots, name-test}
