@@ -1,7 +1,7 @@
 -- The limit of links, at a link: below it the events are read, at it the walk stops. Assumes nothing.
 use Prim.Native.Nat.{ℕ}
-use mathlib.Core.Bool.{Bool, true, false, cond}
-use mathlib.Core.Path.{_≡_, refl, ap}
+use mathlib.Core.Bool.{true, false}
+use mathlib.Core.Path.{_≡_}
 use lib.Dec.{eqb, ltb}
 use Rattle.model.specs.Path.{absolute}
 use Rattle.model.specs.Trace.{Restrictions, noSymlinks}

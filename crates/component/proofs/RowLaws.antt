@@ -1,6 +1,6 @@
 -- The rows of the events that a link meets, with each condition as a test. Assumes nothing.
 use mathlib.Core.Bool.{Bool, true, false, cond, _&&_}
-use mathlib.Core.Option.{Option, some, none}
+use mathlib.Core.Option.{some, none}
 use mathlib.Core.Path.{_≡_, refl}
 use Rattle.model.specs.Trace.{Restrictions, mark, beneath, noXdev, noSymlinks, noMagiclinks, Link, Magic, Jump, row, firstSet, forbids}
 use Rattle.model.specs.declared.Errno.the-variants.{Enoent, Eloop, Exdev}

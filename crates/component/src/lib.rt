@@ -16,7 +16,7 @@ use tree::find_entry;
 ghost use mathlib.Core.Bool.{true, not, _||_};
 ghost use mathlib.Core.Path.{_≡_};
 ghost use Prim.Native.Nat.{ℕ, _≤_, _<_};
-ghost use Rattle.model.specs.Tree.{treeOf, isDirectory};
+ghost use Rattle.model.specs.Tree.{treeOf, isDirectory, isLink};
 ghost use Rattle.model.specs.Walk.{stepTo, byName, oneComponent};
 ghost use Rattle.theorems.proofs.Inside.{Inside};
 ghost use Rattle.component.specs.Outcomes.{requestFor, restrictionsFor, outcome, dotsOf};
@@ -51,7 +51,30 @@ fn is_followed(last: bool, follow: bool) -> bool
     true
 }
 
-// A named node: a link that is followed, or a place to stand on. Only a directory can be covered.
+// A link: followed, or a place to stand on.
+fn link_to(
+    image: &[u8],
+    c: Counts,
+    k: Ask,
+    last: bool,
+    links: usize,
+    p: Place,
+    n: usize,
+    kind: usize,
+) -> Outcome
+    requires { ⌜ Walking (now image) c k × (n < treeOf (now image) .nodes) × (kind ≡ treeOf (now image) .kind n) × (isLink (treeOf (now image)) n ≡ true) ⌝ }
+    ensures { λ r. ⌜ r ≡ outcome (restrictionsFor k) links (stepTo (requestFor (now (image .entry)) k) last p n) ⌝ }
+{
+    if !is_followed(last, k.follow) {
+        return Outcome::Go(Place {
+            mount: p.mount,
+            node: n,
+        });
+    }
+    follow_link(image, c, k, links, p, n, kind)
+}
+
+// A named node, by its kind; an accepted table has none but 1 to 4. Only a directory can be covered.
 fn step_to(image: &[u8], c: Counts, k: Ask, last: bool, links: usize, p: Place, n: usize) -> Outcome
     requires { ⌜ Walking (now image) c k × Inside (treeOf (now image)) p × (n < treeOf (now image) .nodes) ⌝ }
     ensures { λ r. ⌜ r ≡ outcome (restrictionsFor k) links (stepTo (requestFor (now (image .entry)) k) last p n) ⌝ }
@@ -61,16 +84,11 @@ fn step_to(image: &[u8], c: Counts, k: Ask, last: bool, links: usize, p: Place, 
         node: n,
     };
     let kind = node_kind(image, n);
-    if kind == 1 {
-        return enter(image, c, k.mark, k.resolve, there);
+    match kind {
+        1 => enter(image, c, k.mark, k.resolve, there),
+        2 => Outcome::Go(there),
+        _ => link_to(image, c, k, last, links, p, n, kind),
     }
-    if kind == 2 {
-        return Outcome::Go(there);
-    }
-    if !is_followed(last, k.follow) {
-        return Outcome::Go(there);
-    }
-    follow_link(image, c, k, links, p, n, kind)
 }
 
 fn by_name(

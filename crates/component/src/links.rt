@@ -103,8 +103,8 @@ pub fn follow_link(
     if 40 <= links {
         return Outcome::Stop(Errno::Eloop);
     }
-    if kind == 4 {
-        return follow_magic(image, k, p, n);
+    match kind {
+        4 => follow_magic(image, k, p, n),
+        _ => follow_symbolic(image, c, k, p, n),
     }
-    follow_symbolic(image, c, k, p, n)
 }

@@ -1,46 +1,29 @@
+-- `component::by_name` meets its contract. Assumes nothing.
 use borrow.Author.Needs.{needs}
-use Prim.Native.Nat.{ℕ, zero, suc, _+_, _-_, _*_, _/_, _%_, _≤_, _<_}
-use mathlib.Core.Bool.{Bool, true, false, cond, not, _&&_, _||_, and-false, and-true, or-true, or-false}
-use mathlib.Core.Option.{Option, some, none}
-use mathlib.Core.Path.{_≡_, refl, ap, ap₂, _∙_, sym, subst}
+use Prim.Native.Nat.{ℕ}
+use mathlib.Core.Path.{ap, _∙_, sym}
 use native.Mathlib.Omega.{arith}
-use borrow.Author.Tests.{eq-eqb, ne-eqb, lt-ltb, le-ltb, not-true, not-false}
-use lib.Dec.{eqb, ltb}
-use lib.ListN.{length, getD}
+use borrow.Author.Tests.{lt-ltb, le-ltb}
+use lib.ListN.{length}
 use denote.Ref.{now}
-use Rattle.model.specs.Bytes.{has, orElse, sameBytes, ascii}
-use Rattle.model.specs.Tree.{treeOf, isDirectory, isLink, lookup, mountOn}
-use Rattle.model.specs.Path.{absolute}
-use Rattle.model.specs.Trace.{Escape, Cross, forbids, row, firstSet}
-use Rattle.model.specs.Walk.{placeAt, samePlace, rootOf, pointOf, enterBy, enter, toParent, climb, atTop, goUp, after, afterIf, stayAt, magicLink, symbolicLink, followLink, stepTo, stepBy, byName, oneComponent}
-use Rattle.theorems.proofs.Acceptance.{accepted-sound, parent-directory, directory-below, point-directory, root-directory, mount-parent-below, mount-on-below, lookup-inside, entry-facts, symlink-facts, body-whole}
-use Rattle.theorems.proofs.EntryLaws.{is-directory, not-directory}
-use Rattle.image.specs.Searches.{searchOf}
+use Rattle.model.specs.Tree.{treeOf, lookup}
+use Rattle.model.specs.Walk.{stepTo, byName}
+use Rattle.theorems.proofs.Acceptance.{accepted-sound, lookup-inside, entry-facts}
 use Rattle.image.proofs.SearchLaws.{search-at, search-nowhere}
-use Rattle.component.specs.declared.Outcome.the-variants.{Stop, Go, Target, Read}
-use Rattle.component.specs.Outcomes.{requestFor, restrictionsFor, restrictionsBy, forbidAny, stopOr, moveOutcome, landingOutcome, unlimited, outcome, upFrom, dotsOf}
+use Rattle.component.specs.Outcomes.{requestFor, restrictionsFor, outcome}
 use Rattle.component.proofs.by_name.Statement.{statement}
 use Rattle.component.proofs.by_name.Tie as tie
-use Rattle.component.proofs.by_name.Reads as reads
-use Rattle.component.proofs.by_name.Lts as lts
-use Rattle.component.proofs.step_to.Reads as step-to-reads
-use Rattle.image.proofs.records.entry_node.Reads as entry-node-reads
-use Rattle.tree.proofs.find_entry.Reads as find-entry-reads
 
--- src/lib.rt:69:9
 returns : tie.Need-returns
 unfolding byName
 returns c = rw (lt-ltb 255 (length (now (c .before .before .before .args .name))) (c .if1 .taken))
 
--- src/lib.rt:71:9
 find-entry-requires : tie.Need-find-entry-requires
 find-entry-requires c κs = search needs
 
--- src/lib.rt:73:20
 enum-known-found : tie.Need-enum-known-found
 enum-known-found c = search needs
 
--- src/lib.rt:73:63
 entry-node-requires : tie.Need-entry-node-requires
 entry-node-requires c κs =
     let t = treeOf (now (c .before .before .before .before .before .before .before .args .image)) in
@@ -48,7 +31,6 @@ entry-node-requires c κs =
     let e = search-at (lookup t (c .before .before .before .before .before .before .before .args .p .node) (now (c .before .before .before .before .before .before .before .args .name))) (c .before .found .given .0 .0) (sym (c .before .before .before .find-entry .ensures) ∙ c .before .found .given .1) in
     (c .before .before .before .before .before .before .before .pre .0 .reading .counted, lookup-inside t nodes (c .before .before .before .before .before .before .before .args .p .node) (now (c .before .before .before .before .before .before .before .args .name)) (c .before .found .given .0 .0) (c .before .before .before .before .before .before .before .pre .2) e)
 
--- src/lib.rt:73:26
 step-to-requires : tie.Need-step-to-requires
 step-to-requires c κs =
     let t = treeOf (now (c .before .before .before .before .before .before .before .before .args .image)) in
@@ -57,11 +39,9 @@ step-to-requires c κs =
     let below = lookup-inside t (sound .nodes-hold) (c .before .before .before .before .before .before .before .before .args .p .node) (now (c .before .before .before .before .before .before .before .before .args .name)) (c .before .before .found .given .0 .0) (c .before .before .before .before .before .before .before .before .pre .2) e in
     (c .before .before .before .before .before .before .before .before .pre .0, c .before .before .before .before .before .before .before .before .pre .1, omega (arith, c .entry-node .ensures .0, entry-facts t sound (c .before .before .found .given .0 .0) below .1))
 
--- src/lib.rt:74:42
 enum-told : tie.Need-enum-told
 enum-told c = search needs
 
--- src/lib.rt:64:1
 returns-2 : tie.Need-returns-2
 unfolding byName
 returns-2 c =
@@ -72,7 +52,6 @@ returns-2 c =
     c .step-to .ensures ∙ ap (λ (n : ℕ). outcome (restrictionsFor k) (c .before .before .before .before .before .before .before .before .before .args .links) (stepTo a (c .before .before .before .before .before .before .before .before .before .args .last) (c .before .before .before .before .before .before .before .before .before .args .p) n)) (c .before .entry-node .ensures .0)
     ∙ rw (le-ltb 255 (length (now (c .before .before .before .before .before .before .before .before .before .args .name))) (c .before .before .before .before .before .before .if1 .left), e)
 
--- src/lib.rt:64:1
 returns-3 : tie.Need-returns-3
 unfolding byName
 returns-3 c =

@@ -1,66 +1,45 @@
+-- `table::check` meets its contract. Assumes nothing.
 use borrow.Author.Needs.{needs}
-use Prim.Native.Nat.{ℕ, _+_, _*_, _≤_, _<_}
-use mathlib.Core.Bool.{Bool, true, false, not, _&&_, and-false}
-use mathlib.Core.Option.{some, none}
-use mathlib.Core.Path.{_≡_, refl, ap, ap₂, _∙_, sym, subst}
+use mathlib.Core.Bool.{and-false}
+use mathlib.Core.Option.{none}
+use mathlib.Core.Path.{_≡_, ap, _∙_, sym}
 use native.Mathlib.Omega.{arith}
-use borrow.Author.Tests.{eq-eqb, ne-eqb, lt-ltb, le-ltb, le-leb, lt-leb, not-true, not-false}
-use lib.Dec.{eqb, leb}
+use borrow.Author.Tests.{le-leb, lt-leb, not-true, not-false}
 use lib.ListN.{length}
 use denote.Ref.{now}
-use Rattle.model.specs.Bytes.{field}
-use Rattle.model.specs.Tree.{treeOf}
-use Rattle.model.specs.TableCheck.{unless, rule1, rule2, countsFit, wholeLength, rule3, rule4, rule5, rule6, rule7, breaks, recordsCheck, tableCheck}
-use Rattle.model.specs.declared.Verdict.the-variants.{Broken}
-use Rattle.theorems.proofs.Acceptance.{rule4-nodes, rule6-mounts, rules-sized}
-use Rattle.image.proofs.SearchLaws.{search-at, search-nowhere}
+use Rattle.model.specs.TableCheck.{rule1, rule2, rule3, tableCheck}
+use Rattle.theorems.proofs.Acceptance.{rules-sized}
 use Rattle.table.proofs.check.Statement.{statement}
 use Rattle.table.proofs.check.Tie as tie
-use Rattle.table.proofs.check.Reads as reads
-use Rattle.table.proofs.check.Lts as lts
-use Rattle.image.proofs.records.read_counts.Reads as read-counts-reads
-use Rattle.image.proofs.records.text_length.Reads as text-length-reads
-use Rattle.table.proofs.check_records.Reads as check-records-reads
-use Rattle.table.proofs.is_signed.Reads as is-signed-reads
-use Rattle.table.proofs.sizes_fit.Reads as sizes-fit-reads
 
--- src/lib.rt:90:9
 returns : tie.Need-returns
 unfolding tableCheck rule1
 returns c = rw (lt-leb 20 (length (now (c .before .before .args .image))) (omega arith))
 
--- src/lib.rt:93:9
 returns-2 : tie.Need-returns-2
 unfolding tableCheck rule1
 returns-2 c = simp (lt-leb (length (now (c .before .before .before .args .image))) 65536 (omega arith), and-false)
 
--- src/lib.rt:95:9
 is-signed-requires : tie.Need-is-signed-requires
 is-signed-requires c κs = search needs
 
--- src/lib.rt:96:9
 returns-3 : tie.Need-returns-3
 unfolding tableCheck rule1 rule2
 returns-3 c = rw (le-leb 20 (length (now (c .before .before .before .before .before .args .image))) (omega arith), le-leb (length (now (c .before .before .before .before .before .args .image))) 65536 (omega arith), sym (c .before .is-signed .ensures) ∙ not-true _ (c .if3 .taken))
 
--- src/lib.rt:98:9
 read-counts-requires : tie.Need-read-counts-requires
 read-counts-requires c κs = search needs
 
--- src/lib.rt:99:9
 text-length-requires : tie.Need-text-length-requires
 text-length-requires c κs = search needs
 
--- src/lib.rt:100:9
 sizes-fit-requires : tie.Need-sizes-fit-requires
 sizes-fit-requires c κs = (omega arith, c .before .read-counts .ensures, c .text-length .ensures .0, c .text-length .ensures .1)
 
--- src/lib.rt:101:9
 returns-4 : tie.Need-returns-4
 unfolding tableCheck rule1 rule2 rule3
 returns-4 c = rw (le-leb 20 (length (now (c .before .before .before .before .before .before .before .before .before .args .image))) (omega arith), le-leb (length (now (c .before .before .before .before .before .before .before .before .before .args .image))) 65536 (omega arith), sym (c .before .before .before .before .before .is-signed .ensures) ∙ not-false _ (c .before .before .before .before .if3 .left), sym (c .before .sizes-fit .ensures) ∙ not-true _ (c .if4 .taken))
 
--- src/lib.rt:103:5
 check-records-requires : tie.Need-check-records-requires
 unfolding rule1 rule3
 check-records-requires c κs =
@@ -70,7 +49,6 @@ check-records-requires c κs =
     let r = c .before .before .before .read-counts .ensures in
     (record { sized = rules-sized s e1 e3; nodes-are = ap (λ x. x .nodes) r; mounts-are = ap (λ x. x .mounts) r; entries-are = ap (λ x. x .entries) r }, c .before .before .text-length .ensures .0)
 
--- src/lib.rt:86:1
 returns-5 : tie.Need-returns-5
 unfolding tableCheck rule1 rule2 rule3
 returns-5 c =

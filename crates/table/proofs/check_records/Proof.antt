@@ -1,37 +1,20 @@
+-- `table::check_records` meets its contract. Assumes nothing.
 use borrow.Author.Needs.{needs}
-use Prim.Native.Nat.{ℕ, _+_, _*_, _≤_, _<_}
-use mathlib.Core.Bool.{Bool, true, false, not, _&&_, and-false}
-use mathlib.Core.Option.{some, none}
-use mathlib.Core.Path.{_≡_, refl, ap, ap₂, _∙_, sym, subst}
-use native.Mathlib.Omega.{arith}
-use borrow.Author.Tests.{eq-eqb, ne-eqb, lt-ltb, le-ltb, le-leb, lt-leb, not-true, not-false}
-use lib.Dec.{eqb, leb}
-use lib.ListN.{length}
+use mathlib.Core.Path.{_∙_, sym}
 use denote.Ref.{now}
-use Rattle.model.specs.Bytes.{field}
 use Rattle.model.specs.Tree.{treeOf}
-use Rattle.model.specs.TableCheck.{unless, rule1, rule2, countsFit, wholeLength, rule3, rule4, rule5, rule6, rule7, breaks, recordsCheck, tableCheck}
-use Rattle.model.specs.declared.Verdict.the-variants.{Broken}
-use Rattle.theorems.proofs.Acceptance.{rule4-nodes, rule6-mounts, rules-sized}
+use Rattle.model.specs.TableCheck.{rule4, rule5, rule6, rule7, recordsCheck}
+use Rattle.theorems.proofs.Acceptance.{rule4-nodes, rule6-mounts}
 use Rattle.image.proofs.SearchLaws.{search-at, search-nowhere}
 use Rattle.table.proofs.check_records.Statement.{statement}
 use Rattle.table.proofs.check_records.Tie as tie
-use Rattle.table.proofs.check_records.Reads as reads
-use Rattle.table.proofs.check_records.Lts as lts
-use Rattle.table_entries.proofs.first_bad_entry.Reads as first-bad-entry-reads
-use Rattle.table_mounts.proofs.first_bad_mount.Reads as first-bad-mount-reads
-use Rattle.table_nodes.proofs.first_bad_node.Reads as first-bad-node-reads
-use Rattle.table_targets.proofs.first_bad_target.Reads as first-bad-target-reads
 
--- src/lib.rt:67:9
 first-bad-node-requires : tie.Need-first-bad-node-requires
 first-bad-node-requires c κs = search needs
 
--- src/lib.rt:68:23
 enum-known-node : tie.Need-enum-known-node
 enum-known-node c = search needs
 
--- src/lib.rt:69:9
 returns : tie.Need-returns
 unfolding recordsCheck
 returns c =
@@ -42,18 +25,15 @@ returns c =
 enum-told : tie.Need-enum-told
 enum-told c = search needs
 
--- src/lib.rt:71:9
 first-bad-entry-requires : tie.Need-first-bad-entry-requires
 first-bad-entry-requires c κs =
     let t = treeOf (now (c .before .before .before .before .args .image)) in
     let four = search-nowhere (rule4 t) (sym (c .before .before .first-bad-node .ensures) ∙ c .enum-told .given .1) in
     (c .before .before .before .before .pre .0, rule4-nodes t four, c .before .before .before .before .pre .1)
 
--- src/lib.rt:72:23
 enum-known-entry : tie.Need-enum-known-entry
 enum-known-entry c = search needs
 
--- src/lib.rt:73:9
 returns-2 : tie.Need-returns-2
 unfolding recordsCheck
 returns-2 c =
@@ -65,18 +45,15 @@ returns-2 c =
 enum-told-2 : tie.Need-enum-told-2
 enum-told-2 c = search needs
 
--- src/lib.rt:75:9
 first-bad-mount-requires : tie.Need-first-bad-mount-requires
 first-bad-mount-requires c κs =
     let t = treeOf (now (c .before .before .before .before .before .before .before .args .image)) in
     let four = search-nowhere (rule4 t) (sym (c .before .before .before .before .before .first-bad-node .ensures) ∙ c .before .before .before .enum-told .given .1) in
     (c .before .before .before .before .before .before .before .pre .0, rule4-nodes t four)
 
--- src/lib.rt:76:23
 enum-known-mount : tie.Need-enum-known-mount
 enum-known-mount c = search needs
 
--- src/lib.rt:77:9
 returns-3 : tie.Need-returns-3
 unfolding recordsCheck
 returns-3 c =
@@ -89,7 +66,6 @@ returns-3 c =
 enum-told-3 : tie.Need-enum-told-3
 enum-told-3 c = search needs
 
--- src/lib.rt:79:9
 first-bad-target-requires : tie.Need-first-bad-target-requires
 first-bad-target-requires c κs =
     let t = treeOf (now (c .before .before .before .before .before .before .before .before .before .before .args .image)) in
@@ -97,11 +73,9 @@ first-bad-target-requires c κs =
     let six = search-nowhere (rule6 t) (sym (c .before .before .first-bad-mount .ensures) ∙ c .enum-told3 .given .1) in
     (c .before .before .before .before .before .before .before .before .before .before .pre .0, rule4-nodes t four, rule6-mounts t (c .before .before .before .before .before .before .before .before .before .before .pre .0 .sized .some-mount) six)
 
--- src/lib.rt:80:23
 enum-known-target : tie.Need-enum-known-target
 enum-known-target c = search needs
 
--- src/lib.rt:81:9
 returns-4 : tie.Need-returns-4
 unfolding recordsCheck
 returns-4 c =
@@ -115,7 +89,6 @@ returns-4 c =
 enum-told-4 : tie.Need-enum-told-4
 enum-told-4 c = search needs
 
--- src/lib.rt:63:1
 returns-5 : tie.Need-returns-5
 unfolding recordsCheck
 returns-5 c =

@@ -1,91 +1,70 @@
+-- `table::sizes_fit` meets its contract. Assumes nothing.
 use borrow.Author.Needs.{needs}
-use Prim.Native.Nat.{ℕ, _+_, _*_, _≤_, _<_}
-use mathlib.Core.Bool.{Bool, true, false, not, _&&_, and-false}
-use mathlib.Core.Option.{some, none}
-use mathlib.Core.Path.{_≡_, refl, ap, ap₂, _∙_, sym, subst}
+use Prim.Native.Nat.{ℕ}
+use mathlib.Core.Bool.{and-false}
+use mathlib.Core.Path.{ap, _∙_, sym}
 use native.Mathlib.Omega.{arith}
-use borrow.Author.Tests.{eq-eqb, ne-eqb, lt-ltb, le-ltb, le-leb, lt-leb, not-true, not-false}
-use lib.Dec.{eqb, leb}
+use borrow.Author.Tests.{eq-eqb, ne-eqb, le-leb, lt-leb}
+use lib.Dec.{eqb}
 use lib.ListN.{length}
 use denote.Ref.{now}
 use Rattle.model.specs.Bytes.{field}
 use Rattle.model.specs.Tree.{treeOf}
-use Rattle.model.specs.TableCheck.{unless, rule1, rule2, countsFit, wholeLength, rule3, rule4, rule5, rule6, rule7, breaks, recordsCheck, tableCheck}
-use Rattle.model.specs.declared.Verdict.the-variants.{Broken}
-use Rattle.theorems.proofs.Acceptance.{rule4-nodes, rule6-mounts, rules-sized}
+use Rattle.model.specs.TableCheck.{countsFit, wholeLength}
 use Rattle.table.proofs.WholeLaws.{whole-is}
-use Rattle.image.proofs.SearchLaws.{search-at, search-nowhere}
 use Rattle.table.proofs.sizes_fit.Statement.{statement}
 use Rattle.table.proofs.sizes_fit.Tie as tie
-use Rattle.table.proofs.sizes_fit.Reads as reads
-use Rattle.table.proofs.sizes_fit.Lts as lts
-use Rattle.image.proofs.bytes.u32_at.Reads as u32-at-reads
 
--- src/lib.rt:41:9
 returns : tie.Need-returns
 unfolding countsFit
 returns c = let t = treeOf (now (c .before .before .before .args .image)) in rw (lt-leb 1 (t .nodes) (omega (arith, ap (λ x. x .nodes) (c .before .before .before .pre .1))))
 
--- src/lib.rt:44:9
 returns-2 : tie.Need-returns-2
 unfolding countsFit
 returns-2 c = let t = treeOf (now (c .before .before .before .before .before .args .image)) in simp (lt-leb (t .nodes) 4096 (omega (arith, ap (λ x. x .nodes) (c .before .before .before .before .before .pre .1))), and-false)
 
--- src/lib.rt:47:9
 returns-3 : tie.Need-returns-3
 unfolding countsFit
 returns-3 c = let t = treeOf (now (c .before .before .before .before .before .before .before .args .image)) in simp (lt-leb 1 (t .mounts) (omega (arith, ap (λ x. x .mounts) (c .before .before .before .before .before .before .before .pre .1))), and-false)
 
--- src/lib.rt:50:9
 returns-4 : tie.Need-returns-4
 unfolding countsFit
 returns-4 c = let t = treeOf (now (c .before .before .before .before .before .before .before .before .before .args .image)) in simp (lt-leb (t .mounts) 256 (omega (arith, ap (λ x. x .mounts) (c .before .before .before .before .before .before .before .before .before .pre .1))), and-false)
 
--- src/lib.rt:53:9
 returns-5 : tie.Need-returns-5
 unfolding countsFit
 returns-5 c = let t = treeOf (now (c .before .before .before .before .before .before .before .before .before .before .before .args .image)) in simp (lt-leb (t .entries) 4096 (omega (arith, ap (λ x. x .entries) (c .before .before .before .before .before .before .before .before .before .before .before .pre .1))), and-false)
 
--- src/lib.rt:55:22
 mul-whole : tie.Need-mul-whole
 mul-whole c = search needs
 
--- src/lib.rt:55:17
 add-whole : tie.Need-add-whole
 add-whole c = search needs
 
--- src/lib.rt:55:37
 mul-whole-2 : tie.Need-mul-whole-2
 mul-whole-2 c = search needs
 
--- src/lib.rt:55:17
 add-whole-2 : tie.Need-add-whole-2
 add-whole-2 c = search needs
 
--- src/lib.rt:55:52
 mul-whole-3 : tie.Need-mul-whole-3
 mul-whole-3 c = search needs
 
--- src/lib.rt:55:17
 add-whole-3 : tie.Need-add-whole-3
 add-whole-3 c = search needs
 
--- src/lib.rt:55:17
 add-whole-4 : tie.Need-add-whole-4
 add-whole-4 c = search needs
 
--- src/lib.rt:56:8
 u32-at-requires : tie.Need-u32-at-requires
 u32-at-requires c κs = search needs
 
--- src/lib.rt:57:9
 returns-6 : tie.Need-returns-6
 unfolding wholeLength
 returns-6 c =
     let t = treeOf (now (c .before .before .before .before .before .before .before .before .before .before .before .before .before .before .before .before .args .image)) in
     simp (ne-eqb (field 4 (now (c .before .before .before .before .before .before .before .before .before .before .before .before .before .before .before .before .args .image)) 16) (wholeLength t) (λ e. c .if6 .taken (c .before .u32-at .ensures .0 ∙ e ∙ sym (whole-is (c .before .before .before .before .before .before .before .before .before .before .before .before .before .before .before .before .args .c) t (c .before .before .before .before .before .before .before .before .before .before .before .before .before .before .before .before .args .text) (ap (λ x. x .nodes) (c .before .before .before .before .before .before .before .before .before .before .before .before .before .before .before .before .pre .1)) (ap (λ x. x .mounts) (c .before .before .before .before .before .before .before .before .before .before .before .before .before .before .before .before .pre .1)) (ap (λ x. x .entries) (c .before .before .before .before .before .before .before .before .before .before .before .before .before .before .before .before .pre .1)) (c .before .before .before .before .before .before .before .before .before .before .before .before .before .before .before .before .pre .2)))), and-false)
 
--- src/lib.rt:36:1
 returns-7 : tie.Need-returns-7
 unfolding countsFit
 returns-7 c =

@@ -1,33 +1,21 @@
+-- `ventolaire::put2` meets its contract. Assumes nothing.
 use borrow.Author.Needs.{needs}
-use Prim.Native.Nat.{ℕ, _≤_, _<_, _-_}
-use mathlib.Core.List.{List, [], _∷_, _++_}
-use mathlib.Core.Path.{_≡_, refl, ap, _∙_, sym, subst}
 use native.Mathlib.Omega.{arith}
-use lib.ListN.{length, drop, length-set}
+use lib.ListN.{length-set}
 use denote.Ref.{now}
-use Rattle.model.specs.Answers.{answerNumbers, verdictNumbers, errnoNumber}
-use Rattle.model.specs.TableCheck.{tableCheck}
-use Rattle.model.specs.Resolve.{resolve}
-use Rattle.ventolaire.specs.Written.{handleOf, errnoNumbers}
-use Rattle.ventolaire.proofs.OutLaws.{front-2, front-6, answer-writes, answer-short, verdict-writes, verdict-short, writes-all, writes-none, front-9}
+use Rattle.ventolaire.proofs.OutLaws.{front-2}
 use Rattle.ventolaire.proofs.put2.Statement.{statement}
 use Rattle.ventolaire.proofs.put2.Tie as tie
-use Rattle.ventolaire.proofs.put2.Reads as reads
-use Rattle.ventolaire.proofs.put2.Lts as lts
 
--- src/lib.rt:40:5
 slice-write-out : tie.Need-slice-write-out
 slice-write-out c = search needs
 
--- src/lib.rt:41:5
 slice-write-out-2 : tie.Need-slice-write-out-2
 slice-write-out-2 c = simp length-set (omega arith)
 
--- src/lib.rt:36:1
 same-length : tie.Need-same-length
 same-length c = search needs
 
--- src/lib.rt:36:1
 returns : tie.Need-returns
 returns c = front-2 (now (c .args .out)) (c .args .a) (c .args .b) (c .pre)
 

@@ -1,102 +1,74 @@
+-- `ventolaire::ventolaire_errnos` meets its contract. Assumes nothing.
 use borrow.Author.Needs.{needs}
-use Prim.Native.Nat.{ℕ, _≤_, _<_, _-_}
-use mathlib.Core.List.{List, [], _∷_, _++_}
-use mathlib.Core.Path.{_≡_, refl, ap, _∙_, sym, subst}
+use mathlib.Core.Path.{refl, _∙_}
 use native.Mathlib.Omega.{arith}
-use lib.ListN.{length, drop, length-set}
+use lib.ListN.{length-set}
 use denote.Ref.{now}
-use Rattle.model.specs.Answers.{answerNumbers, verdictNumbers, errnoNumber}
-use Rattle.model.specs.TableCheck.{tableCheck}
-use Rattle.model.specs.Resolve.{resolve}
-use Rattle.ventolaire.specs.Written.{handleOf, errnoNumbers}
-use Rattle.ventolaire.proofs.OutLaws.{front-2, front-6, answer-writes, answer-short, verdict-writes, verdict-short, writes-all, writes-none, front-9}
+use Rattle.ventolaire.specs.Written.{errnoNumbers}
+use Rattle.ventolaire.proofs.OutLaws.{writes-all, writes-none, front-9}
 use Rattle.ventolaire.proofs.ventolaire_errnos.Statement.{statement}
 use Rattle.ventolaire.proofs.ventolaire_errnos.Tie as tie
-use Rattle.ventolaire.proofs.ventolaire_errnos.Reads as reads
-use Rattle.ventolaire.proofs.ventolaire_errnos.Lts as lts
-use Rattle.ventolaire.proofs.errno_number.Reads as errno-number-reads
 
--- src/lib.rt:153:9
 returns : tie.Need-returns
 returns c = writes-none errnoNumbers (now (c .before .before .args .out)) 9 refl (c .if1 .taken)
 
--- src/lib.rt:155:14
 errno-number-requires : tie.Need-errno-number-requires
 errno-number-requires c κs = search needs
 
--- src/lib.rt:155:5
 slice-write-out : tie.Need-slice-write-out
 slice-write-out c = search needs
 
--- src/lib.rt:156:14
 errno-number-requires-2 : tie.Need-errno-number-requires-2
 errno-number-requires-2 c κs = search needs
 
--- src/lib.rt:156:5
 slice-write-out-2 : tie.Need-slice-write-out-2
 slice-write-out-2 c = simp length-set (omega arith)
 
--- src/lib.rt:157:14
 errno-number-requires-3 : tie.Need-errno-number-requires-3
 errno-number-requires-3 c κs = search needs
 
--- src/lib.rt:157:5
 slice-write-out-3 : tie.Need-slice-write-out-3
 slice-write-out-3 c = simp length-set (omega arith)
 
--- src/lib.rt:158:14
 errno-number-requires-4 : tie.Need-errno-number-requires-4
 errno-number-requires-4 c κs = search needs
 
--- src/lib.rt:158:5
 slice-write-out-4 : tie.Need-slice-write-out-4
 slice-write-out-4 c = simp length-set (omega arith)
 
--- src/lib.rt:159:14
 errno-number-requires-5 : tie.Need-errno-number-requires-5
 errno-number-requires-5 c κs = search needs
 
--- src/lib.rt:159:5
 slice-write-out-5 : tie.Need-slice-write-out-5
 slice-write-out-5 c = simp length-set (omega arith)
 
--- src/lib.rt:160:14
 errno-number-requires-6 : tie.Need-errno-number-requires-6
 errno-number-requires-6 c κs = search needs
 
--- src/lib.rt:160:5
 slice-write-out-6 : tie.Need-slice-write-out-6
 slice-write-out-6 c = simp length-set (omega arith)
 
--- src/lib.rt:161:14
 errno-number-requires-7 : tie.Need-errno-number-requires-7
 errno-number-requires-7 c κs = search needs
 
--- src/lib.rt:161:5
 slice-write-out-7 : tie.Need-slice-write-out-7
 slice-write-out-7 c = simp length-set (omega arith)
 
--- src/lib.rt:162:14
 errno-number-requires-8 : tie.Need-errno-number-requires-8
 errno-number-requires-8 c κs = search needs
 
--- src/lib.rt:162:5
 slice-write-out-8 : tie.Need-slice-write-out-8
 slice-write-out-8 c = simp length-set (omega arith)
 
--- src/lib.rt:163:14
 errno-number-requires-9 : tie.Need-errno-number-requires-9
 errno-number-requires-9 c κs = search needs
 
--- src/lib.rt:163:5
 slice-write-out-9 : tie.Need-slice-write-out-9
 slice-write-out-9 c = simp length-set (omega arith)
 
--- src/lib.rt:148:1
 same-length : tie.Need-same-length
 same-length c = simp length-set
 
--- src/lib.rt:148:1
 returns-2 : tie.Need-returns-2
 returns-2 c =
     let l = now (c .before .before .before .before .before .before .before .before .before .before .before .args .out) in

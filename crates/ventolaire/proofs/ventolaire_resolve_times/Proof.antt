@@ -1,49 +1,34 @@
+-- `ventolaire::ventolaire_resolve_times` meets its contract. Assumes nothing.
 use borrow.Author.Needs.{needs}
-use Prim.Native.Nat.{ℕ, _≤_, _<_, _-_}
-use mathlib.Core.List.{List, [], _∷_, _++_}
-use mathlib.Core.Path.{_≡_, refl, ap, _∙_, sym, subst}
-use native.Mathlib.Omega.{arith}
-use lib.ListN.{length, drop, length-set}
+use mathlib.Core.List.{_++_}
+use mathlib.Core.Path.{ap, _∙_, sym}
+use lib.ListN.{drop}
 use denote.Ref.{now}
-use Rattle.model.specs.Answers.{answerNumbers, verdictNumbers, errnoNumber}
-use Rattle.model.specs.TableCheck.{tableCheck}
+use Rattle.model.specs.Answers.{answerNumbers}
 use Rattle.model.specs.Resolve.{resolve}
-use Rattle.ventolaire.specs.Written.{handleOf, errnoNumbers}
-use Rattle.ventolaire.proofs.OutLaws.{front-2, front-6, answer-writes, answer-short, verdict-writes, verdict-short, writes-all, writes-none, front-9}
+use Rattle.ventolaire.specs.Written.{handleOf}
+use Rattle.ventolaire.proofs.OutLaws.{answer-writes, answer-short}
 use Rattle.ventolaire.proofs.ventolaire_resolve_times.Statement.{statement}
 use Rattle.ventolaire.proofs.ventolaire_resolve_times.Tie as tie
-use Rattle.ventolaire.proofs.ventolaire_resolve_times.Reads as reads
-use Rattle.ventolaire.proofs.ventolaire_resolve_times.Lts as lts
-use Rattle.resolver.proofs.resolve.Reads as resolve-reads
-use Rattle.table.proofs.check.Reads as check-reads
-use Rattle.ventolaire.proofs.put_answer.Reads as put-answer-reads
-use Rattle.ventolaire.proofs.resolve_again.Reads as resolve-again-reads
 
--- src/lib.rt:131:9
 returns : tie.Need-returns
 returns c = answer-short (resolve (now (c .before .before .before .before .before .args .image)) (handleOf (c .before .before .before .before .before .args .mount) (c .before .before .before .before .before .args .node) (c .before .before .before .before .before .args .mark)) (now (c .before .before .before .before .before .args .path)) (now (c .before .before .before .before .before .args .how))) (now (c .before .before .before .before .before .args .out)) (c .if1 .taken)
 
--- src/lib.rt:138:9
 check-requires : tie.Need-check-requires
 check-requires c κs = search needs
 
--- src/lib.rt:140:20
 enum-told : tie.Need-enum-told
 enum-told c = search needs
 
--- src/lib.rt:140:25
 resolve-again-requires : tie.Need-resolve-again-requires
 resolve-again-requires c κs = sym (c .before .before .before .check .ensures) ∙ c .before .enum-told .given .1
 
--- src/lib.rt:140:9
 put-answer-requires : tie.Need-put-answer-requires
 put-answer-requires c κs = search needs
 
--- src/lib.rt:141:9
 same-length : tie.Need-same-length
 same-length c = search needs
 
--- src/lib.rt:141:9
 returns-2 : tie.Need-returns-2
 returns-2 c =
     let a = resolve (now (c .before .before .before .before .before .before .before .before .before .before .before .before .before .args .image)) (handleOf (c .before .before .before .before .before .before .before .before .before .before .before .before .before .args .mount) (c .before .before .before .before .before .before .before .before .before .before .before .before .before .args .node) (c .before .before .before .before .before .before .before .before .before .before .before .before .before .args .mark)) (now (c .before .before .before .before .before .before .before .before .before .before .before .before .before .args .path)) (now (c .before .before .before .before .before .before .before .before .before .before .before .before .before .args .how)) in
@@ -52,19 +37,15 @@ returns-2 c =
 enum-told-2 : tie.Need-enum-told-2
 enum-told-2 c = search needs
 
--- src/lib.rt:143:21
 resolve-requires : tie.Need-resolve-requires
 resolve-requires c κs = search needs
 
--- src/lib.rt:143:5
 put-answer-requires-2 : tie.Need-put-answer-requires-2
 put-answer-requires-2 c κs = search needs
 
--- src/lib.rt:126:1
 same-length-2 : tie.Need-same-length-2
 same-length-2 c = search needs
 
--- src/lib.rt:126:1
 returns-3 : tie.Need-returns-3
 returns-3 c =
     let a = resolve (now (c .before .before .before .before .before .before .before .before .before .before .before .before .before .args .image)) (handleOf (c .before .before .before .before .before .before .before .before .before .before .before .before .before .args .mount) (c .before .before .before .before .before .before .before .before .before .before .before .before .before .args .node) (c .before .before .before .before .before .before .before .before .before .before .before .before .before .args .mark)) (now (c .before .before .before .before .before .before .before .before .before .before .before .before .before .args .path)) (now (c .before .before .before .before .before .before .before .before .before .before .before .before .before .args .how)) in
