@@ -32,7 +32,13 @@ add-m c = omega (arith, c .before .pre .0 .sized .few-mounts)
 
 -- src/lib.rt:87:9
 returns : tie.Need-returns Inv-loop μ-loop
-returns c = sym (ap searchOf (mount-on-above (treeOf (now (c .before .before .args .image))) (accepted-sound (now (c .before .before .args .image)) (c .before .before .pre .1) .mounts-hold) (c .before .before .args .mount) (c .before .before .args .node) (c .before .before .pre .2) ∙ find-done (onPlace (treeOf (now (c .before .before .args .image))) (c .before .before .args .mount) (c .before .before .args .node)) (c .before .before .args .mount + 1) ((treeOf (now (c .before .before .args .image))) .mounts) (omega (arith, c .before .before .pre .0 .mounts-are))))
+returns c =
+    let t = treeOf (now (c .before .before .args .image)) in
+    let p = c .before .before .args .mount in
+    let n = c .before .before .args .node in
+    let test = onPlace t p n in
+    let mounts = accepted-sound (now (c .before .before .args .image)) (c .before .before .pre .1) .mounts-hold in
+    sym (ap searchOf (mount-on-above t mounts p n (c .before .before .pre .2) ∙ find-done test (p + 1) (t .mounts) (omega (arith, c .before .before .pre .0 .mounts-are))))
 
 -- src/lib.rt:89:16
 mount-root-requires : tie.Need-mount-root-requires Inv-loop μ-loop
@@ -40,7 +46,12 @@ mount-root-requires c κs = (c .before .before .pre .0, c .before .before .pre .
 
 -- src/lib.rt:90:9
 returns-2 : tie.Need-returns-2 Inv-loop μ-loop
-returns-2 c = sym (ap searchOf (mount-on-root (treeOf (now (c .before .before .before .before .args .image))) (accepted-sound (now (c .before .before .before .before .args .image)) (c .before .before .before .before .pre .1) .mounts-hold) (c .before .before .before .before .args .mount) (c .before .before .before .before .args .node) (c .before .before .before .before .pre .2) (c .if2 .taken ∙ c .before .mount-root .ensures .0)))
+returns-2 c =
+    let t = treeOf (now (c .before .before .before .before .args .image)) in
+    let p = c .before .before .before .before .args .mount in
+    let n = c .before .before .before .before .args .node in
+    let mounts = accepted-sound (now (c .before .before .before .before .args .image)) (c .before .before .before .before .pre .1) .mounts-hold in
+    sym (ap searchOf (mount-on-root t mounts p n (c .before .before .before .before .pre .2) (c .if2 .taken ∙ c .before .mount-root .ensures .0)))
 
 -- src/lib.rt:92:26
 mul-wanted : tie.Need-mul-wanted Inv-loop μ-loop
@@ -52,7 +63,13 @@ add-wanted c = omega (arith, c .before .before .before .before .pre .0 .sized .f
 
 -- src/lib.rt:93:5
 loop-holds : tie.Need-loop-holds Inv-loop μ-loop
-loop-holds c = (c .before .before .before .before .pre .0 .mounts-are, omega (arith, c .before .before .before .before .pre .0 .mounts-are), mount-on-above (treeOf (now (c .before .before .before .before .args .image))) (accepted-sound (now (c .before .before .before .before .args .image)) (c .before .before .before .before .pre .1) .mounts-hold) (c .before .before .before .before .args .mount) (c .before .before .before .before .args .node) (c .before .before .before .before .pre .2) ∙ ap (λ (k : ℕ). find (onPlace (treeOf (now (c .before .before .before .before .args .image))) (c .before .before .before .before .args .mount) (c .before .before .before .before .args .node)) (c .before .before .before .before .args .mount + 1) (k - (c .before .before .before .before .args .mount + 1))) (sym (c .before .before .before .before .pre .0 .mounts-are)))
+loop-holds c =
+    let t = treeOf (now (c .before .before .before .before .args .image)) in
+    let p = c .before .before .before .before .args .mount in
+    let n = c .before .before .before .before .args .node in
+    let test = onPlace t p n in
+    let mounts = accepted-sound (now (c .before .before .before .before .args .image)) (c .before .before .before .before .pre .1) .mounts-hold in
+    (c .before .before .before .before .pre .0 .mounts-are, omega (arith, c .before .before .before .before .pre .0 .mounts-are), mount-on-above t mounts p n (c .before .before .before .before .pre .2) ∙ ap (λ (k : ℕ). find test (p + 1) (k - (p + 1))) (sym (c .before .before .before .before .pre .0 .mounts-are)))
 
 -- src/lib.rt:94:12
 packed-point-requires : tie.Need-packed-point-requires Inv-loop μ-loop
@@ -61,8 +78,13 @@ packed-point-requires c κs = (c .before .before .before .before .before .before
 -- src/lib.rt:95:13
 returns-3 : tie.Need-returns-3 Inv-loop μ-loop
 returns-3 c =
-    let cut : c .before .before .before .loop .m ≡ c .before .before .before .loop .m % 65536 = omega (arith, c .before .before .before .loop .inv .0, c .before .before .before .before .before .before .before .before .pre .0 .sized .few-mounts) in
-    sym (ap searchOf (c .before .before .before .loop .inv .2 ∙ find-here (onPlace (treeOf (now (c .before .before .before .before .before .before .before .before .args .image))) (c .before .before .before .before .before .before .before .before .args .mount) (c .before .before .before .before .before .before .before .before .args .node)) (c .before .before .before .loop .m) _ (c .before .before .loop-test .taken) (packed-same ((treeOf (now (c .before .before .before .before .before .before .before .before .args .image))) .mountParent (c .before .before .before .loop .m)) ((treeOf (now (c .before .before .before .before .before .before .before .before .args .image))) .mountPoint (c .before .before .before .loop .m)) (c .before .before .before .before .before .before .before .before .args .mount) (c .before .before .before .before .before .before .before .before .args .node) (c .before .packed-point .ensures .1) (omega (arith, c .before .before .before .before .before .before .before .before .pre .0 .sized .few-mounts)) (sym (c .before .packed-point .ensures .0) ∙ c .if3 .taken)) ∙ ap some cut))
+    let t = treeOf (now (c .before .before .before .before .before .before .before .before .args .image)) in
+    let p = c .before .before .before .before .before .before .before .before .args .mount in
+    let n = c .before .before .before .before .before .before .before .before .args .node in
+    let test = onPlace t p n in
+    let m = c .before .before .before .loop .m in
+    let cut : m ≡ m % 65536 = omega (arith, c .before .before .before .loop .inv .0, c .before .before .before .before .before .before .before .before .pre .0 .sized .few-mounts) in
+    sym (ap searchOf (c .before .before .before .loop .inv .2 ∙ find-here test m _ (c .before .before .loop-test .taken) (packed-same (t .mountParent m) (t .mountPoint m) p n (c .before .packed-point .ensures .1) (omega (arith, c .before .before .before .before .before .before .before .before .pre .0 .sized .few-mounts)) (sym (c .before .packed-point .ensures .0) ∙ c .if3 .taken)) ∙ ap some cut))
 
 -- src/lib.rt:97:9
 add-m-2 : tie.Need-add-m-2 Inv-loop μ-loop
@@ -74,7 +96,13 @@ loop-less c = omega arith
 
 -- src/lib.rt:93:5
 loop-again : tie.Need-loop-again Inv-loop μ-loop
-loop-again c = (c .before .before .before .loop .inv .0, omega arith, c .before .before .before .loop .inv .2 ∙ find-on (onPlace (treeOf (now (c .before .before .before .before .before .before .before .before .args .image))) (c .before .before .before .before .before .before .before .before .args .mount) (c .before .before .before .before .before .before .before .before .args .node)) (c .before .before .before .loop .m) _ (c .before .before .loop-test .taken) (packed-other ((treeOf (now (c .before .before .before .before .before .before .before .before .args .image))) .mountParent (c .before .before .before .loop .m)) ((treeOf (now (c .before .before .before .before .before .before .before .before .args .image))) .mountPoint (c .before .before .before .loop .m)) (c .before .before .before .before .before .before .before .before .args .mount) (c .before .before .before .before .before .before .before .before .args .node) (λ e. c .if3 .left (c .before .packed-point .ensures .0 ∙ e))))
+loop-again c =
+    let t = treeOf (now (c .before .before .before .before .before .before .before .before .args .image)) in
+    let p = c .before .before .before .before .before .before .before .before .args .mount in
+    let n = c .before .before .before .before .before .before .before .before .args .node in
+    let test = onPlace t p n in
+    let m = c .before .before .before .loop .m in
+    (c .before .before .before .loop .inv .0, omega arith, c .before .before .before .loop .inv .2 ∙ find-on test m _ (c .before .before .loop-test .taken) (packed-other (t .mountParent m) (t .mountPoint m) p n (λ e. c .if3 .left (c .before .packed-point .ensures .0 ∙ e))))
 
 -- src/lib.rt:80:1
 returns-4 : tie.Need-returns-4 Inv-loop μ-loop

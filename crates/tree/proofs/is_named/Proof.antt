@@ -1,4 +1,5 @@
 use mathlib.Core.Path.{ap, _∙_, sym}
+use native.Mathlib.Omega.{arith}
 use lib.ListN.{length}
 use denote.Ref.{now}
 use Rattle.model.specs.Bytes.{sameBytes}
@@ -20,7 +21,7 @@ name-length-requires c κs = search needs
 
 -- src/lib.rt:58:9
 returns : tie.Need-returns
-returns c = sym (differing (treeOf (now (c .before .before .before .before .args .image)) .name (c .before .before .before .before .args .e)) (now (c .before .before .before .before .args .wanted)) (λ q. c .if1 .taken (c .before .name-length .ensures .0 ∙ sym (name-whole (now (c .before .before .before .before .args .image)) (c .before .before .before .before .args .e) (c .before .before .before .before .pre .0 .sized) (c .before .before .before .before .pre .2)) ∙ q)))
+returns c = sym (differing (treeOf (now (c .before .before .before .before .args .image)) .name (c .before .before .before .before .args .e)) (now (c .before .before .before .before .args .wanted)) (λ q. omega (arith, c .before .name-length .ensures .0, name-whole (now (c .before .before .before .before .args .image)) (c .before .before .before .before .args .e) (c .before .before .before .before .pre .0 .sized) (c .before .before .before .before .pre .2))))
 
 -- src/lib.rt:60:16
 name-requires : tie.Need-name-requires

@@ -1,4 +1,5 @@
 use mathlib.Core.Path.{sym}
+use native.Mathlib.Omega.{arith}
 use denote.Ref.{now}
 use Rattle.theorems.proofs.StringLaws.{differing}
 use borrow.Author.Needs.{needs}
@@ -10,7 +11,7 @@ use Rattle.image.proofs.strings.same_sized.Reads as same-sized-reads
 
 -- src/strings.rt:64:9
 returns : tie.Need-returns
-returns c = sym (differing (now (c .before .before .before .args .a)) (now (c .before .before .before .args .b)) (c .if1 .taken))
+returns c = sym (differing (now (c .before .before .before .args .a)) (now (c .before .before .before .args .b)) (λ q. omega arith))
 
 -- src/strings.rt:66:5
 same-sized-requires : tie.Need-same-sized-requires
