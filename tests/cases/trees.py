@@ -52,7 +52,9 @@ def mounted():
 def linked():
     """Directories 0 top, 1 "d" in 0. File 2 "f" in 0 and 1. Links in 0: 3 "sub" to `d/`, 4 "chain" to `way/`, 5 "way" to `f`,
     6 "to" to `sub`, 7 "root" to `/`, in 1 too, 8 "slashes" to `///`, 9 "dot" to `.`, 10 "long" to a name of 256 bytes, 11 "gone" to
-    `nothing`, 12 "past" to `f/x`, 15 "dirs" to `sub/`. File 13 with a name of 255 bytes, 14 "..." in 0."""
+    `nothing`, 12 "past" to `f/x`, 15 "dirs" to `sub/`, 16 "again" to `root`. File 13 with a name of 255 bytes, 14 "..." in 0. Magic in
+    0: 17 "md" to (0,1), 20 "mf" to (0,2); links in 0 to them: 18 "tomd" to `md`, 19 "tomds" to `md/`, 21 "tomf" to `mf`, 22 "tomfs" to
+    `mf/`."""
     t = Tree()
     top = t.top()
     d = t.directory(top, "d")
@@ -72,6 +74,13 @@ def linked():
     t.file(top, "n" * 255)
     t.file(top, "...")
     t.symlink(top, "dirs", "sub/")
+    t.symlink(top, "again", "root")
+    t.magic(top, "md", (0, 1))
+    t.symlink(top, "tomd", "md")
+    t.symlink(top, "tomds", "md/")
+    t.magic(top, "mf", (0, 2))
+    t.symlink(top, "tomf", "mf")
+    t.symlink(top, "tomfs", "mf/")
     return t.mount(0).image()
 
 
