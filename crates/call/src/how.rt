@@ -1,7 +1,7 @@
 // The checks of open_how: u64 flags, u16 mode, 6 padding bytes, u64 resolve.
 use crate::Check;
 use crate::refuse;
-use image::bytes::u64_at;
+use fields::u64_at;
 use model::Errno;
 use model::Progress;
 use model::Refusal;

@@ -1,8 +1,8 @@
 // The checks of the given path.
 use crate::Check;
 use crate::refuse;
-use image::strings::holds_byte;
 use model::Errno;
+use strings::holds_byte;
 ghost use mathlib.Core.Path.{_≡_};
 ghost use Rattle.model.specs.Path.{pathRefused};
 ghost use Rattle.call.specs.Checks.{checkOf};

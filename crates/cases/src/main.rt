@@ -3,8 +3,8 @@
 // The input is written by tests/cases/write: a u32 count, then a record of 80 bytes for each case, then the bytes that the records
 // lend. All numbers are little-endian. A record: u32 kind (1: table check, 2: call); u32 offset and u32 length of the image, the
 // path, the open_how and the case's name; u32 mark; u64 mount; u64 node; the expected numbers, six u32 for a call, two for a check.
-use image::bytes::u32_at;
-use image::bytes::u64_at;
+use fields::u32_at;
+use fields::u64_at;
 use ventolaire::ventolaire_check;
 use ventolaire::ventolaire_resolve;
 ghost use mathlib.Core.Bool.{true};

@@ -4,7 +4,6 @@ use mathlib.Core.Option.{Option, none, some}
 use mathlib.Core.Path.{_≡_, refl}
 use native.Mathlib.Omega.{arith}
 use Rattle.image.specs.Searches.{searchOf}
-use Rattle.image.specs.declared.search.Search.{Search}
 use Rattle.image.specs.declared.search.Search.the-variants.{At, Nowhere}
 
 pub search-at : (o : Option ℕ) (n : ℕ) → searchOf o ≡ At n → o ≡ some n

@@ -1,7 +1,7 @@
 // The fields of nodes, mounts and entries, by the record's number. They ask that the sizes fit (rules 1 and 3), which the table
 // check has seen before it reads a record.
-use crate::bytes::u16_at;
-use crate::bytes::u32_at;
+use fields::u16_at;
+use fields::u32_at;
 ghost use mathlib.Core.Path.{_≡_};
 ghost use Prim.Native.Nat.{ℕ, _+_, _*_, _^_, _≤_, _<_};
 ghost use lib.ListN.{length};

@@ -1,12 +1,12 @@
 // The table check: an image of any bytes and any length to accepted, or to the lowest rule broken with the lowest record.
-use image::bytes::u16_at;
-use image::bytes::u32_at;
+use fields::u16_at;
+use fields::u32_at;
 use image::records::Counts;
 use image::records::read_counts;
 use image::records::text_length;
 use image::search::Search;
-use image::strings::same;
 use model::Verdict;
+use strings::same;
 use table_entries::first_bad_entry;
 use table_mounts::first_bad_mount;
 use table_nodes::first_bad_node;

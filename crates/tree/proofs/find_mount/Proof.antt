@@ -1,5 +1,5 @@
 -- `tree::find_mount` meets its contract. The loop's invariant: the search is that from `m` on. Assumes nothing.
-use Prim.Native.Nat.{ℕ, _+_, _-_, _*_, _%_, _≤_}
+use Prim.Native.Nat.{ℕ, _+_, _-_, _%_, _≤_}
 use mathlib.Core.Option.{some}
 use mathlib.Core.Path.{_≡_, ap, _∙_, sym}
 use native.Mathlib.Omega.{arith}
@@ -12,13 +12,8 @@ use Rattle.theorems.proofs.ByteLaws.{find-here, find-on, find-done}
 use Rattle.theorems.proofs.MountLaws.{onPlace, mount-on-above, mount-on-root}
 use Rattle.theorems.proofs.StringLaws.{packed-same, packed-other}
 use Rattle.image.specs.Searches.{searchOf}
-use borrow.Author.Needs.{needs}
 use Rattle.tree.proofs.find_mount.Statement.{statement}
 use Rattle.tree.proofs.find_mount.Tie as tie
-use Rattle.tree.proofs.find_mount.Reads as reads
-use Rattle.tree.proofs.find_mount.Lts as lts
-use Rattle.image.proofs.records.mount_root.Reads as mount-root-reads
-use Rattle.image.proofs.records.packed_point.Reads as packed-point-reads
 
 abbrev Inv-loop : tie.InvT-loop
 Inv-loop image c mount node end m₀ wanted m = (end ≡ treeOf image .mounts) × (m ≤ end) × (mountOn (treeOf image) (placeAt mount node) ≡ find (onPlace (treeOf image) mount node) m (end - m))
@@ -26,11 +21,9 @@ Inv-loop image c mount node end m₀ wanted m = (end ≡ treeOf image .mounts) �
 abbrev μ-loop : tie.MeasureT-loop
 μ-loop image c mount node end m₀ wanted m = end - m
 
--- src/lib.rt:85:17
 add-m : tie.Need-add-m Inv-loop μ-loop
 add-m c = omega (arith, c .before .pre .0 .sized .few-mounts)
 
--- src/lib.rt:87:9
 returns : tie.Need-returns Inv-loop μ-loop
 returns c =
     let t = treeOf (now (c .before .before .args .image)) in
@@ -40,11 +33,9 @@ returns c =
     let mounts = accepted-sound (now (c .before .before .args .image)) (c .before .before .pre .1) .mounts-hold in
     sym (ap searchOf (mount-on-above t mounts p n (c .before .before .pre .2) ∙ find-done test (p + 1) (t .mounts) (omega (arith, c .before .before .pre .0 .mounts-are))))
 
--- src/lib.rt:89:16
 mount-root-requires : tie.Need-mount-root-requires Inv-loop μ-loop
 mount-root-requires c κs = (c .before .before .pre .0, c .before .before .pre .2)
 
--- src/lib.rt:90:9
 returns-2 : tie.Need-returns-2 Inv-loop μ-loop
 returns-2 c =
     let t = treeOf (now (c .before .before .before .before .args .image)) in
@@ -53,15 +44,12 @@ returns-2 c =
     let mounts = accepted-sound (now (c .before .before .before .before .args .image)) (c .before .before .before .before .pre .1) .mounts-hold in
     sym (ap searchOf (mount-on-root t mounts p n (c .before .before .before .before .pre .2) (c .if2 .taken ∙ c .before .mount-root .ensures .0)))
 
--- src/lib.rt:92:26
 mul-wanted : tie.Need-mul-wanted Inv-loop μ-loop
 mul-wanted c = omega (arith, c .before .before .before .before .pre .0 .sized .few-nodes)
 
--- src/lib.rt:92:18
 add-wanted : tie.Need-add-wanted Inv-loop μ-loop
 add-wanted c = omega (arith, c .before .before .before .before .pre .0 .sized .few-nodes, c .before .before .before .before .pre .0 .sized .few-mounts)
 
--- src/lib.rt:93:5
 loop-holds : tie.Need-loop-holds Inv-loop μ-loop
 loop-holds c =
     let t = treeOf (now (c .before .before .before .before .args .image)) in
@@ -71,11 +59,9 @@ loop-holds c =
     let mounts = accepted-sound (now (c .before .before .before .before .args .image)) (c .before .before .before .before .pre .1) .mounts-hold in
     (c .before .before .before .before .pre .0 .mounts-are, omega (arith, c .before .before .before .before .pre .0 .mounts-are), mount-on-above t mounts p n (c .before .before .before .before .pre .2) ∙ ap (λ (k : ℕ). find test (p + 1) (k - (p + 1))) (sym (c .before .before .before .before .pre .0 .mounts-are)))
 
--- src/lib.rt:94:12
 packed-point-requires : tie.Need-packed-point-requires Inv-loop μ-loop
 packed-point-requires c κs = (c .before .before .before .before .before .before .pre .0, omega (arith, c .before .loop .inv .0))
 
--- src/lib.rt:95:13
 returns-3 : tie.Need-returns-3 Inv-loop μ-loop
 returns-3 c =
     let t = treeOf (now (c .before .before .before .before .before .before .before .before .args .image)) in
@@ -86,15 +72,12 @@ returns-3 c =
     let cut : m ≡ m % 65536 = omega (arith, c .before .before .before .loop .inv .0, c .before .before .before .before .before .before .before .before .pre .0 .sized .few-mounts) in
     sym (ap searchOf (c .before .before .before .loop .inv .2 ∙ find-here test m _ (c .before .before .loop-test .taken) (packed-same (t .mountParent m) (t .mountPoint m) p n (c .before .packed-point .ensures .1) (omega (arith, c .before .before .before .before .before .before .before .before .pre .0 .sized .few-mounts)) (sym (c .before .packed-point .ensures .0) ∙ c .if3 .taken)) ∙ ap some cut))
 
--- src/lib.rt:97:9
 add-m-2 : tie.Need-add-m-2 Inv-loop μ-loop
 add-m-2 c = omega (arith, c .before .before .before .loop .inv .0, c .before .before .before .before .before .before .before .before .pre .0 .sized .few-mounts)
 
--- src/lib.rt:93:5
 loop-less : tie.Need-loop-less Inv-loop μ-loop
 loop-less c = omega arith
 
--- src/lib.rt:93:5
 loop-again : tie.Need-loop-again Inv-loop μ-loop
 loop-again c =
     let t = treeOf (now (c .before .before .before .before .before .before .before .before .args .image)) in
@@ -104,7 +87,6 @@ loop-again c =
     let m = c .before .before .before .loop .m in
     (c .before .before .before .loop .inv .0, omega arith, c .before .before .before .loop .inv .2 ∙ find-on test m _ (c .before .before .loop-test .taken) (packed-other (t .mountParent m) (t .mountPoint m) p n (λ e. c .if3 .left (c .before .packed-point .ensures .0 ∙ e))))
 
--- src/lib.rt:80:1
 returns-4 : tie.Need-returns-4 Inv-loop μ-loop
 returns-4 c = sym (ap searchOf (c .before .loop .inv .2 ∙ find-done (onPlace (treeOf (now (c .before .before .before .before .before .before .args .image))) (c .before .before .before .before .before .before .args .mount) (c .before .before .before .before .before .before .args .node)) (c .before .loop .m) _ (c .loop-test .left)))
 

@@ -1,3 +1,4 @@
+-- `tree::is_directory` meets its contract. Assumes nothing.
 use borrow.Author.Needs.{needs}
 use Prim.Native.Nat.{ℕ}
 use mathlib.Core.Path.{ap, _∙_}
@@ -8,20 +9,14 @@ use denote.Ref.{now}
 use Rattle.model.specs.Tree.{treeOf, isDirectory}
 use Rattle.tree.proofs.is_directory.Statement.{statement}
 use Rattle.tree.proofs.is_directory.Tie as tie
-use Rattle.tree.proofs.is_directory.Reads as reads
-use Rattle.tree.proofs.is_directory.Lts as lts
-use Rattle.image.proofs.records.node_kind.Reads as node-kind-reads
 
--- src/lib.rt:27:9
 returns : tie.Need-returns
 unfolding isDirectory
 returns c = rw (le-ltb (c .before .before .before .args .n) (treeOf (now (c .before .before .before .args .image)) .nodes) (omega arith))
 
--- src/lib.rt:29:5
 node-kind-requires : tie.Need-node-kind-requires
 node-kind-requires c κs = search needs
 
--- src/lib.rt:22:1
 returns-2 : tie.Need-returns-2
 unfolding isDirectory
 returns-2 c = ap (λ (k : ℕ). eqb k 1) (c .node-kind .ensures .0) ∙ rw (lt-ltb (c .before .before .before .before .args .n) (treeOf (now (c .before .before .before .before .args .image)) .nodes) (omega arith))

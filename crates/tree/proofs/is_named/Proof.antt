@@ -1,3 +1,4 @@
+-- `tree::is_named` meets its contract. Assumes nothing.
 use mathlib.Core.Path.{ap, _∙_, sym}
 use native.Mathlib.Omega.{arith}
 use lib.ListN.{length}
@@ -9,29 +10,19 @@ use Rattle.theorems.proofs.StringLaws.{differing}
 use borrow.Author.Needs.{needs}
 use Rattle.tree.proofs.is_named.Statement.{statement}
 use Rattle.tree.proofs.is_named.Tie as tie
-use Rattle.tree.proofs.is_named.Reads as reads
-use Rattle.tree.proofs.is_named.Lts as lts
-use Rattle.image.proofs.records.name_length.Reads as name-length-reads
-use Rattle.image.proofs.strings.same_sized.Reads as same-sized-reads
-use Rattle.image.proofs.texts.name.Reads as name-reads
 
--- src/lib.rt:57:8
 name-length-requires : tie.Need-name-length-requires
 name-length-requires c κs = search needs
 
--- src/lib.rt:58:9
 returns : tie.Need-returns
 returns c = sym (differing (treeOf (now (c .before .before .before .before .args .image)) .name (c .before .before .before .before .args .e)) (now (c .before .before .before .before .args .wanted)) (λ q. omega (arith, c .before .name-length .ensures .0, name-whole (now (c .before .before .before .before .args .image)) (c .before .before .before .before .args .e) (c .before .before .before .before .pre .0 .sized) (c .before .before .before .before .pre .2))))
 
--- src/lib.rt:60:16
 name-requires : tie.Need-name-requires
 name-requires c κs = search needs
 
--- src/lib.rt:60:5
 same-sized-requires : tie.Need-same-sized-requires
 same-sized-requires c κs = ap length (c .name .ensures) ∙ name-whole (now (c .before .before .before .before .before .args .image)) (c .before .before .before .before .before .args .e) (c .before .before .before .before .before .pre .0 .sized) (c .before .before .before .before .before .pre .2) ∙ sym (c .before .before .name-length .ensures .0) ∙ c .before .if1 .left
 
--- src/lib.rt:53:1
 returns-2 : tie.Need-returns-2
 returns-2 c = c .same-sized .ensures ∙ ap (λ x. sameBytes x (now (c .before .before .before .before .before .before .args .wanted))) (c .before .name .ensures)
 

@@ -1,28 +1,22 @@
+-- `image::records::mount_at` meets its contract. Assumes nothing.
 use borrow.Author.Needs.{needs}
 use native.Mathlib.Omega.{arith}
 use Rattle.model.specs.Tree.{treeOf, mountAt, entryAt, textAt}
 use Rattle.image.proofs.records.mount_at.Statement.{statement}
 use Rattle.image.proofs.records.mount_at.Tie as tie
-use Rattle.image.proofs.records.mount_at.Reads as reads
-use Rattle.image.proofs.records.mount_at.Lts as lts
 
--- src/records.rt:43:10
 mul-result : tie.Need-mul-result
 mul-result c = search needs
 
--- src/records.rt:43:5
 add-result : tie.Need-add-result
 add-result c = search needs
 
--- src/records.rt:43:25
 mul-result-2 : tie.Need-mul-result-2
 mul-result-2 c = search needs
 
--- src/records.rt:43:5
 add-result-2 : tie.Need-add-result-2
 add-result-2 c = search needs
 
--- src/records.rt:39:1
 returns : tie.Need-returns
 unfolding treeOf mountAt entryAt textAt
 returns c = omega arith

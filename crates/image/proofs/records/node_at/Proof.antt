@@ -1,10 +1,8 @@
+-- `image::records::node_at` meets its contract. Assumes nothing.
 use borrow.Author.Needs.{needs}
 use native.Mathlib.Omega.{arith}
-use Rattle.model.specs.Tree.{treeOf}
 use Rattle.image.proofs.records.node_at.Statement.{statement}
 use Rattle.image.proofs.records.node_at.Tie as tie
-use Rattle.image.proofs.records.node_at.Reads as reads
-use Rattle.image.proofs.records.node_at.Lts as lts
 
 mul-result : tie.Need-mul-result
 mul-result c = search needs

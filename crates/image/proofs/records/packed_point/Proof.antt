@@ -1,3 +1,4 @@
+-- `image::records::packed_point` meets its contract. Assumes nothing.
 use borrow.Author.Needs.{needs}
 use mathlib.Core.Path.{_∙_}
 use native.Mathlib.Omega.{arith}
@@ -6,24 +7,16 @@ use Rattle.model.specs.Tree.{treeOf}
 use Rattle.theorems.proofs.ByteLaws.{field-pair, field-lt}
 use Rattle.image.proofs.records.packed_point.Statement.{statement}
 use Rattle.image.proofs.records.packed_point.Tie as tie
-use Rattle.image.proofs.records.packed_point.Reads as reads
-use Rattle.image.proofs.records.packed_point.Lts as lts
-use Rattle.image.proofs.bytes.u32_at.Reads as u32-at-reads
-use Rattle.image.proofs.records.mount_at.Reads as mount-at-reads
 
--- src/records.rt:123:19
 mount-at-requires : tie.Need-mount-at-requires
 mount-at-requires c κs = search needs
 
--- src/records.rt:123:19
 add-u32-at : tie.Need-add-u32-at
 add-u32-at c = search needs
 
--- src/records.rt:123:5
 u32-at-requires : tie.Need-u32-at-requires
 u32-at-requires c κs = search needs
 
--- src/records.rt:119:1
 returns : tie.Need-returns
 unfolding treeOf
 returns c =

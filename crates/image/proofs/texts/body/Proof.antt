@@ -1,3 +1,4 @@
+-- `image::texts::body` meets its contract. Assumes nothing.
 use borrow.Author.Needs.{needs}
 use Prim.Native.Nat.{ℕ, _+_}
 use mathlib.Core.Path.{ap, ap₂}
@@ -6,45 +7,31 @@ use Rattle.model.specs.Tree.{treeOf}
 use Rattle.theorems.proofs.StringLaws.{part-between}
 use Rattle.image.proofs.texts.body.Statement.{statement}
 use Rattle.image.proofs.texts.body.Tie as tie
-use Rattle.image.proofs.texts.body.Reads as reads
-use Rattle.image.proofs.texts.body.Lts as lts
-use Rattle.image.proofs.records.node_count.Reads as node-count-reads
-use Rattle.image.proofs.records.node_first.Reads as node-first-reads
-use Rattle.image.proofs.records.text_at.Reads as text-at-reads
 
--- src/texts.rt:28:17
 text-at-requires : tie.Need-text-at-requires
 text-at-requires c κs = search needs
 
--- src/texts.rt:28:37
 node-first-requires : tie.Need-node-first-requires
 node-first-requires c κs = search needs
 
--- src/texts.rt:28:17
 add-start : tie.Need-add-start
 add-start c = search needs
 
--- src/texts.rt:29:23
 node-count-requires : tie.Need-node-count-requires
 node-count-requires c κs = search needs
 
--- src/texts.rt:29:15
 add-end : tie.Need-add-end
 add-end c = search needs
 
--- src/texts.rt:30:5
 sub-result : tie.Need-sub-result
 sub-result c = search needs
 
--- src/texts.rt:30:5
 part-result-start : tie.Need-part-result-start
 part-result-start c = search needs
 
--- src/texts.rt:30:5
 part-result-end : tie.Need-part-result-end
 part-result-end c = search needs
 
--- src/texts.rt:24:1
 returns : tie.Need-returns
 unfolding treeOf
 returns c = part-between (now (c .before .before .before .before .before .args .image)) _ _ _ _ (ap₂ _+_ (c .before .before .before .text-at .ensures .0) (c .before .before .node-first .ensures .0)) (ap (λ (n : ℕ). c .before .before .before .text-at .result + c .before .before .node-first .result + n) (c .before .node-count .ensures .0))

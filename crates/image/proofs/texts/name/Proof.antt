@@ -1,3 +1,4 @@
+-- `image::texts::name` meets its contract. Assumes nothing.
 use borrow.Author.Needs.{needs}
 use Prim.Native.Nat.{ℕ, _+_}
 use mathlib.Core.Path.{ap, ap₂}
@@ -6,45 +7,31 @@ use Rattle.model.specs.Tree.{treeOf}
 use Rattle.theorems.proofs.StringLaws.{part-between}
 use Rattle.image.proofs.texts.name.Statement.{statement}
 use Rattle.image.proofs.texts.name.Tie as tie
-use Rattle.image.proofs.texts.name.Reads as reads
-use Rattle.image.proofs.texts.name.Lts as lts
-use Rattle.image.proofs.records.name_length.Reads as name-length-reads
-use Rattle.image.proofs.records.name_offset.Reads as name-offset-reads
-use Rattle.image.proofs.records.text_at.Reads as text-at-reads
 
--- src/texts.rt:18:17
 text-at-requires : tie.Need-text-at-requires
 text-at-requires c κs = search needs
 
--- src/texts.rt:18:37
 name-offset-requires : tie.Need-name-offset-requires
 name-offset-requires c κs = search needs
 
--- src/texts.rt:18:17
 add-start : tie.Need-add-start
 add-start c = search needs
 
--- src/texts.rt:19:23
 name-length-requires : tie.Need-name-length-requires
 name-length-requires c κs = search needs
 
--- src/texts.rt:19:15
 add-end : tie.Need-add-end
 add-end c = search needs
 
--- src/texts.rt:20:5
 sub-result : tie.Need-sub-result
 sub-result c = search needs
 
--- src/texts.rt:20:5
 part-result-start : tie.Need-part-result-start
 part-result-start c = search needs
 
--- src/texts.rt:20:5
 part-result-end : tie.Need-part-result-end
 part-result-end c = search needs
 
--- src/texts.rt:14:1
 returns : tie.Need-returns
 unfolding treeOf
 returns c = part-between (now (c .before .before .before .before .before .args .image)) _ _ _ _ (ap₂ _+_ (c .before .before .before .text-at .ensures .0) (c .before .before .name-offset .ensures .0)) (ap (λ (n : ℕ). c .before .before .before .text-at .result + c .before .before .name-offset .result + n) (c .before .name-length .ensures .0))

@@ -1,0 +1,177 @@
+-- Laws of strings compared by blocks, each over the block's width. Assumes nothing.
+use Prim.Native.Nat.{ℕ, zero, suc, _+_, _*_, _^_, _≤_, _<_}
+use mathlib.Core.Bool.{Bool, true, false}
+use mathlib.Core.List.{List}
+use mathlib.Core.Logic.{⊎-elim}
+use mathlib.Core.Path.{_≡_, refl, sym, ap, ap₂, _∙_, subst}
+use native.Mathlib.Nat.{eq-or-lt-of-le, add-zero, add-suc, pow-suc}
+use native.Mathlib.Numerals.{add-one}
+use native.Mathlib.Omega.{arith}
+use borrow.Author.Tests.{eq-eqb, ne-eqb, le-ltb, lt-ltb, eqb-true, eqb-false, ltb-true, ltb-false}
+use lib.Dec.{eqb, ltb}
+use lib.ListN.{length, getD, drop}
+use lib.Seq.{ext-getD}
+use Rattle.model.specs.Bytes.{field, sameBytes, before}
+use Rattle.theorems.proofs.ByteLaws.{field-ext, field-same}
+use Rattle.theorems.proofs.Cases.{below-or}
+use Rattle.theorems.proofs.StringLaws.{same-equal, equal-same, before-next, before-short, before-ended}
+use Rattle.strings.specs.Blocks.{bigEndian, SameTo, Deciding}
+
+abbrev pub Bytes : List ℕ → Type 0
+Bytes s = (i : ℕ) → getD s i 0 < 256
+
+-- the same bytes in a block
+abbrev Alike : List ℕ → List ℕ → ℕ → ℕ → Type 0
+Alike s t at width = (i : ℕ) → at ≤ i → i < at + width → getD s i 0 ≡ getD t i 0
+
+-- a number is its high bytes above its low bytes
+pub big-split : (high low : ℕ) (s : List ℕ) (at : ℕ)
+    → bigEndian (high + low) s at ≡ 256 ^ low * bigEndian high s at + bigEndian low s (at + high)
+unfolding bigEndian
+big-split high zero s at = rw (add-zero high) (omega arith)
+big-split high (suc low) s at =
+    let e : at + (high + low) ≡ at + high + low = omega arith in
+    rw (add-suc high low, big-split high low s at, e, pow-suc 256 low) (omega arith)
+
+pub big-two : (s : List ℕ) (at : ℕ) → bigEndian 2 s at ≡ 256 * getD s at 0 + getD s (at + 1) 0
+unfolding bigEndian
+big-two s at = rw (add-zero at) (omega arith)
+
+-- what two strings have in common, a block further
+pub further : (s t : List ℕ) (n at width : ℕ) → SameTo s t n → at ≤ n → Alike s t at width → SameTo s t (at + width)
+further s t n at width known l block i h = ⊎-elim (λ (q : i < n). known i q) (λ (q : n ≤ i). block i (omega arith) h) (below-or i n)
+
+pub not-further : (s t : List ℕ) (n m : ℕ) → SameTo s t n → m ≤ n → SameTo s t m
+not-further s t n m known l i h = known i (omega arith)
+
+module _ (s t : List ℕ) (hs : Bytes s) (ht : Bytes t) where
+  big-same : (width at : ℕ) → bigEndian width s at ≡ bigEndian width t at → Alike s t at width
+  unfolding bigEndian
+  big-same zero at e i l u = absurd (omega arith)
+  big-same (suc width) at e i l u =
+      let here : getD s (at + width) 0 ≡ getD t (at + width) 0 = omega (arith, hs (at + width), ht (at + width)) in
+      let there : bigEndian width s at ≡ bigEndian width t at = omega (arith, hs (at + width), ht (at + width)) in
+      ⊎-elim
+      (λ (q : i < at + width). big-same width at there i l q)
+      (λ (q : at + width ≤ i). let p : i ≡ at + width = omega arith in ap (λ (k : ℕ). getD s k 0) p ∙ here ∙ ap (λ (k : ℕ). getD t k 0) (sym p))
+      (below-or i (at + width))
+
+-- the first byte of a block at which the first string is lower
+pub record Lower (s t : List ℕ) (at width : ℕ) : Type 0 where
+  pub far : ℕ
+  pub from : at ≤ far
+  pub below : far < at + width
+  pub alike : (i : ℕ) → at ≤ i → i < far → getD s i 0 ≡ getD t i 0
+  pub less : getD s far 0 < getD t far 0
+
+module _ (s t : List ℕ) (hs : Bytes s) (ht : Bytes t) where
+  big-lower : (width at : ℕ) → bigEndian width s at < bigEndian width t at → Lower s t at width
+  unfolding bigEndian
+  big-lower zero at h = absurd (omega arith)
+  big-lower (suc width) at h =
+      ⊎-elim
+      (λ (q : bigEndian width s at < bigEndian width t at).
+      let r = big-lower width at q in
+      record { far = r .far; from = r .from; below = omega (arith, r .below); alike = r .alike; less = r .less })
+      (λ (q : bigEndian width t at ≤ bigEndian width s at).
+      let e : bigEndian width s at ≡ bigEndian width t at = omega (arith, hs (at + width), ht (at + width)) in
+      record {
+        far = at + width;
+        from = omega arith;
+        below = omega arith;
+        alike = big-same s t hs ht width at e;
+        less = omega (arith, hs (at + width), ht (at + width));
+      })
+      (below-or (bigEndian width s at) (bigEndian width t at))
+
+-- bytes that are the same leave the order to those after them
+before-skip : (s t : List ℕ) (n : ℕ) → SameTo s t n → n ≤ length s → n ≤ length t → before s t ≡ before (drop n s) (drop n t)
+before-skip s t zero known ls lt = refl
+before-skip s t (suc n) known ls lt =
+    let e : getD s n 0 ≡ getD t n 0 = known n (omega arith) in
+    before-skip s t n (not-further s t (suc n) n known (omega arith)) (omega arith) (omega arith) ∙ before-next s t n ls lt
+    ∙ rw (le-ltb (getD s n 0) (getD t n 0) (omega arith), eq-eqb (getD s n 0) (getD t n 0) e, add-one)
+
+module _ (s t : List ℕ) (at : ℕ) (known : SameTo s t at) (ls : at < length s) (lt : at < length t) where
+  before-lower : getD s at 0 < getD t at 0 → before s t ≡ true
+  before-lower h = before-skip s t at known (omega arith) (omega arith) ∙ before-next s t at ls lt ∙ rw (lt-ltb (getD s at 0) (getD t at 0) h)
+
+  before-higher : getD t at 0 < getD s at 0 → before s t ≡ false
+  before-higher h =
+      before-skip s t at known (omega arith) (omega arith) ∙ before-next s t at ls lt
+      ∙ rw (le-ltb (getD s at 0) (getD t at 0) (omega arith), ne-eqb (getD s at 0) (getD t at 0) (λ e. omega arith))
+
+module _ (width : ℕ) (s t : List ℕ) (hs : Bytes s) (ht : Bytes t) (at : ℕ) (known : SameTo s t at) where
+  -- the first block that differs decides the order, as a number
+  pub before-big : at + width ≤ length s → at + width ≤ length t → (bigEndian width s at ≡ bigEndian width t at → ⊥)
+      → before s t ≡ ltb (bigEndian width s at) (bigEndian width t at)
+  before-big ls lt other = by (ltb (bigEndian width s at) (bigEndian width t at)) refl
+    where
+      by : (b : Bool) → ltb (bigEndian width s at) (bigEndian width t at) ≡ b → before s t ≡ b
+      by true e =
+          let r = big-lower s t hs ht width at (ltb-true _ _ e) in
+          before-lower s t (r .far) (λ i h. ⊎-elim (λ (q : i < at). known i q) (λ (q : at ≤ i). r .alike i q h) (below-or i at)) (omega (arith, r .below)) (omega (arith, r .below)) (r .less)
+      by false e =
+          let l = ltb-false (bigEndian width s at) (bigEndian width t at) e in
+          let h : bigEndian width t at < bigEndian width s at = ⊎-elim (λ (q : bigEndian width t at ≡ bigEndian width s at). absurd (other (sym q))) (λ q. q) (eq-or-lt-of-le l) in
+          let r = big-lower t s ht hs width at h in
+          before-higher s t (r .far) (λ i k. ⊎-elim (λ (q : i < at). known i q) (λ (q : at ≤ i). sym (r .alike i q k)) (below-or i at)) (omega (arith, r .below)) (omega (arith, r .below)) (r .less)
+
+-- where the shorter string begins the longer one their lengths decide
+pub before-begun : (s t : List ℕ) (n : ℕ) → SameTo s t n → n ≤ length s → n ≤ length t → (n < length s → length t ≡ n)
+    → before s t ≡ ltb (length s) (length t)
+before-begun s t n known ls lt end =
+    before-skip s t n known ls lt
+    ∙ ⊎-elim
+    (λ (q : n ≡ length s). before-ended s t n (omega arith) ∙ ap (λ (k : ℕ). ltb k (length t)) q)
+    (λ (q : n < length s). let e = end q in before-short s t n (omega arith) ∙ sym (le-ltb (length s) (length t) (omega arith)))
+    (eq-or-lt-of-le ls)
+
+pub same-all : (s t : List ℕ) → length s ≡ length t → SameTo s t (length s) → sameBytes s t ≡ true
+same-all s t e known = ap (sameBytes s) (sym (ext-getD 0 s t e known)) ∙ equal-same s
+
+pub same-not : (width : ℕ) (s t : List ℕ) (at : ℕ) → (field width s at ≡ field width t at → ⊥) → sameBytes s t ≡ false
+same-not width s t at h = by (sameBytes s t) refl
+  where
+    by : (b : Bool) → sameBytes s t ≡ b → b ≡ false
+    by false e = refl
+    by true e = absurd (h (ap (λ (u : List ℕ). field width u at) (same-equal s t e)))
+
+-- of two blocks that meet or overlap, the second decides where the first ones are the same
+pub second-decides : (width : ℕ) (s t : List ℕ) (last : ℕ) → Bytes s → Bytes t → last ≤ width → field width s 0 ≡ field width t 0
+    → Deciding width s t last last
+second-decides width s t last hs ht l e = record {
+  within = omega arith;
+  alike = λ i h. field-same width s t 0 hs ht e i (omega arith) (omega arith);
+  differs = λ h f. omega arith;
+}
+
+-- the deciding block decides
+module _ (width : ℕ) (s t : List ℕ) (hs : Bytes s) (ht : Bytes t) (last at : ℕ) (block : Deciding width s t last at) where
+  to-the-last : Alike s t at width → SameTo s t (last + width)
+  to-the-last h =
+      ⊎-elim
+      (λ (q : at ≡ last). subst (λ (k : ℕ). SameTo s t (k + width)) q (further s t at at width (block .alike) (omega arith) h))
+      (λ (q : at < last). absurd (block .differs q (field-ext width s t at h)))
+      (eq-or-lt-of-le (block .within))
+
+  pub deciding-same : (x y : ℕ) → x ≡ field width s at → y ≡ field width t at → last + width ≡ length s → length s ≡ length t
+      → eqb x y ≡ sameBytes s t
+  deciding-same x y ex ey ls e = by (eqb x y) refl
+    where
+      by : (b : Bool) → eqb x y ≡ b → b ≡ sameBytes s t
+      by true f =
+          let known = to-the-last (field-same width s t at hs ht (sym ex ∙ eqb-true x y f ∙ ey)) in
+          sym (same-all s t e (subst (λ (k : ℕ). SameTo s t k) ls known))
+      by false f = sym (same-not width s t at (λ q. eqb-false x y f (ex ∙ q ∙ sym ey)))
+
+  pub deciding-before : (x y : ℕ) → x ≡ bigEndian width s at → y ≡ bigEndian width t at → last + width ≤ length s → last + width ≤ length t
+      → (x ≡ y → ⊥) → ltb x y ≡ before s t
+  deciding-before x y ex ey ls lt other =
+      ap₂ ltb ex ey
+      ∙ sym (before-big width s t hs ht at (block .alike) (omega (arith, block .within)) (omega (arith, block .within)) (λ q. other (ex ∙ q ∙ sym ey)))
+
+  pub deciding-begun : (x y : ℕ) → x ≡ bigEndian width s at → y ≡ bigEndian width t at → last + width ≤ length s → last + width ≤ length t
+      → (last + width < length s → length t ≡ last + width) → x ≡ y → ltb (length s) (length t) ≡ before s t
+  deciding-begun x y ex ey ls lt end e =
+      sym (before-begun s t (last + width) (to-the-last (big-same s t hs ht width at (sym ex ∙ e ∙ ey))) ls lt end)

@@ -1,0 +1,77 @@
+-- `strings::before_bytes` meets its contract. The loop's invariant: the order of the strings is that of what they hold from `i` on.
+-- Assumes nothing.
+use Prim.Native.Nat.{_≤_, _-_}
+use mathlib.Core.Bool.{or-false}
+use native.Mathlib.Nat.{le-of-eq}
+use mathlib.Core.Path.{_≡_, refl, _∙_, sym}
+use native.Mathlib.Omega.{arith}
+use borrow.Author.Tests.{eq-eqb, ne-eqb, le-ltb}
+use lib.ListN.{length, drop}
+use denote.Ref.{now}
+use Rattle.model.specs.Bytes.{before}
+use Rattle.theorems.proofs.StringLaws.{before-next, before-short, before-ended}
+use Rattle.strings.proofs.before_bytes.Statement.{statement}
+use Rattle.strings.proofs.before_bytes.Tie as tie
+
+abbrev Inv-loop : tie.InvT-loop
+Inv-loop a b i₀ i = (i ≤ length a) × (i ≤ length b) × (before a b ≡ before (drop i a) (drop i b))
+
+abbrev μ-loop : tie.MeasureT-loop
+μ-loop a b i₀ i = length a - i
+
+loop-holds : tie.Need-loop-holds Inv-loop μ-loop
+loop-holds c = (omega arith, omega arith, refl)
+
+returns : tie.Need-returns Inv-loop μ-loop
+returns c = sym (c .before .before .loop .inv .2 ∙ before-short (now (c .before .before .before .args .a)) (now (c .before .before .before .args .b)) (c .before .before .loop .i) (c .if1 .taken))
+
+shared-slice-read-if2 : tie.Need-shared-slice-read-if2 Inv-loop μ-loop
+shared-slice-read-if2 c = omega arith
+
+shared-slice-read-if2-2 : tie.Need-shared-slice-read-if2-2 Inv-loop μ-loop
+shared-slice-read-if2-2 c = omega arith
+
+shared-slice-read-result : tie.Need-shared-slice-read-result Inv-loop μ-loop
+shared-slice-read-result c = omega arith
+
+shared-slice-read-result-2 : tie.Need-shared-slice-read-result-2 Inv-loop μ-loop
+shared-slice-read-result-2 c = omega arith
+
+returns-2 : tie.Need-returns-2 Inv-loop μ-loop
+returns-2 c =
+    let a = now (c .before .before .before .before .before .before .before .before .args .a) in
+    let b = now (c .before .before .before .before .before .before .before .before .args .b) in
+    sym (c .before .before .before .before .before .before .before .loop .inv .2 ∙ before-next a b (c .before .before .before .before .before .before .before .loop .i) (c .before .before .before .before .before .before .loop-test .taken) (c .before .before .before .before .before .if1 .left) ∙ rw (ne-eqb _ _ (c .before .before .if2 .taken)) (or-false _))
+
+add-i : tie.Need-add-i Inv-loop μ-loop
+add-i c = omega arith
+
+loop-less : tie.Need-loop-less Inv-loop μ-loop
+loop-less c = omega arith
+
+loop-again : tie.Need-loop-again Inv-loop μ-loop
+loop-again c =
+    let a = now (c .before .before .before .before .before .before .args .a) in
+    let b = now (c .before .before .before .before .before .before .args .b) in
+    (omega arith, omega arith, c .before .before .before .before .before .loop .inv .2 ∙ before-next a b (c .before .before .before .before .before .loop .i) (c .before .before .before .before .loop-test .taken) (c .before .before .before .if1 .left) ∙ rw (le-ltb _ _ (le-of-eq (sym (c .if2 .left))), eq-eqb _ _ (c .if2 .left)))
+
+returns-3 : tie.Need-returns-3 Inv-loop μ-loop
+returns-3 c = sym (c .before .loop .inv .2 ∙ before-ended (now (c .before .before .args .a)) (now (c .before .before .args .b)) (c .before .loop .i) (c .loop-test .left))
+
+pub before-bytes-spec : {M : Type 1} → statement M
+before-bytes-spec =
+    tie.close
+    (tie.spec
+    Inv-loop
+    μ-loop
+    loop-holds
+    returns
+    shared-slice-read-if2
+    shared-slice-read-if2-2
+    shared-slice-read-result
+    shared-slice-read-result-2
+    returns-2
+    add-i
+    loop-less
+    loop-again
+    returns-3)

@@ -1,0 +1,52 @@
+-- `strings::holds_byte` meets its contract. The loop's invariant: the byte stands in the string if it was found, or stands from
+-- `i` on. Assumes nothing.
+use Prim.Native.Nat.{_≤_, _-_}
+use mathlib.Core.Bool.{_||_}
+use mathlib.Core.Logic.{⊎-elim}
+use mathlib.Core.Path.{_≡_, refl, _∙_}
+use native.Mathlib.Omega.{arith}
+use lib.ListN.{length, drop}
+use denote.Ref.{now}
+use Rattle.model.specs.Bytes.{contains}
+use Rattle.theorems.proofs.StringLaws.{seen-hit, seen-miss, seen-all}
+use Rattle.strings.proofs.holds_byte.Statement.{statement}
+use Rattle.strings.proofs.holds_byte.Tie as tie
+
+abbrev Inv-loop : tie.InvT-loop
+Inv-loop s b found₀ i₀ found i = (i ≤ length s) × (contains b s ≡ found || contains b (drop i s))
+
+abbrev μ-loop : tie.MeasureT-loop
+μ-loop s b found₀ i₀ found i = length s - i
+
+loop-holds : tie.Need-loop-holds Inv-loop μ-loop
+loop-holds c = (omega arith, refl)
+
+shared-slice-read-if1 : tie.Need-shared-slice-read-if1 Inv-loop μ-loop
+shared-slice-read-if1 c = omega arith
+
+add-i : tie.Need-add-i Inv-loop μ-loop
+add-i c = omega arith
+
+loop-less : tie.Need-loop-less Inv-loop μ-loop
+loop-less c = omega arith
+
+loop-again : tie.Need-loop-again Inv-loop μ-loop
+loop-again c =
+    let s = now (c .before .before .before .before .args .s) in
+    let b = c .before .before .before .before .args .b in
+    let i = c .before .before .before .loop .i in
+    let f = c .before .before .before .loop .found in (
+      omega arith,
+      ⊎-elim
+          (λ w. seen-hit b s i f (c .before .before .loop-test .taken) (c .before .before .before .loop .inv .1) (w .0 .taken) ∙ rw (w .1))
+          (λ w. seen-miss b s i f (c .before .before .loop-test .taken) (c .before .before .before .loop .inv .1) (w .0 .left) ∙ rw (w .1))
+          (c .if1 .came),
+    )
+
+returns : tie.Need-returns Inv-loop μ-loop
+returns c = seen-all (c .before .before .args .b) (now (c .before .before .args .s)) (c .before .loop .i) (c .before .loop .found) (c .loop-test .left) (c .before .loop .inv .1)
+
+pub holds-byte-spec : {M : Type 1} → statement M
+holds-byte-spec =
+    tie.close
+    (tie.spec Inv-loop μ-loop loop-holds shared-slice-read-if1 add-i loop-less loop-again returns)

@@ -1,0 +1,54 @@
+-- `strings::same_sized` meets its contract. Assumes nothing.
+use native.Mathlib.Omega.{arith}
+use denote.Ref.{now}
+use Rattle.strings.proofs.BlockLaws.{deciding-same}
+use borrow.Author.Needs.{needs}
+use Rattle.strings.proofs.same_sized.Statement.{statement}
+use Rattle.strings.proofs.same_sized.Tie as tie
+
+same-bytes-requires : tie.Need-same-bytes-requires
+same-bytes-requires c κs = search needs
+
+returns : tie.Need-returns
+returns c = search needs
+
+deciding-four-requires : tie.Need-deciding-four-requires
+deciding-four-requires c κs = search needs
+
+u32-at-requires : tie.Need-u32-at-requires
+u32-at-requires c κs = search needs
+
+u32-at-requires-2 : tie.Need-u32-at-requires-2
+u32-at-requires-2 c κs = search needs
+
+returns-2 : tie.Need-returns-2
+returns-2 c =
+    deciding-same 4 (now (c .before .before .before .before .before .before .before .args .a)) (now (c .before .before .before .before .before .before .before .args .b)) (λ k. omega (arith, c .before .before .before .before .before .before .shared-slice-known .given k)) (λ k. omega (arith, c .before .before .before .before .before .shared-slice-known2 .given k)) _ (c .before .before .deciding-four .result) (c .before .before .deciding-four .ensures) (c .before .u32-at .result) (c .u32-at2 .result) (c .before .u32-at .ensures .0) (c .u32-at2 .ensures .0) (omega arith) (c .before .before .before .before .before .before .before .pre)
+
+deciding-eight-requires : tie.Need-deciding-eight-requires
+deciding-eight-requires c κs = search needs
+
+u64-at-requires : tie.Need-u64-at-requires
+u64-at-requires c κs = search needs
+
+u64-at-requires-2 : tie.Need-u64-at-requires-2
+u64-at-requires-2 c κs = search needs
+
+returns-3 : tie.Need-returns-3
+returns-3 c =
+    deciding-same 8 (now (c .before .before .before .before .before .before .before .args .a)) (now (c .before .before .before .before .before .before .before .args .b)) (λ k. omega (arith, c .before .before .before .before .before .before .shared-slice-known .given k)) (λ k. omega (arith, c .before .before .before .before .before .shared-slice-known2 .given k)) _ (c .before .before .deciding-eight .result) (c .before .before .deciding-eight .ensures) (c .before .u64-at .result) (c .u64-at2 .result) (c .before .u64-at .ensures .0) (c .u64-at2 .ensures .0) (omega arith) (c .before .before .before .before .before .before .before .pre)
+
+pub same-sized-spec : {M : Type 1} → statement M
+same-sized-spec =
+    tie.close
+    (tie.spec
+    same-bytes-requires
+    returns
+    deciding-four-requires
+    u32-at-requires
+    u32-at-requires-2
+    returns-2
+    deciding-eight-requires
+    u64-at-requires
+    u64-at-requires-2
+    returns-3)
