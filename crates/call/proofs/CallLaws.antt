@@ -7,7 +7,8 @@ use Rattle.model.specs.TableCheck.{tableCheck}
 use Rattle.model.specs.Resolve.{refusedTable, refusedBefore}
 use Rattle.model.specs.declared.Handle.{Handle}
 use Rattle.model.specs.declared.Verdict.the-variants.{Accepted}
-use Rattle.call.specs.Checks.{fieldsOf, refusedAfterTable, walksUnless, callRead}
+use Rattle.open_how.specs.Checks.{fieldsOf}
+use Rattle.call.specs.Calls.{refusedAfterTable, walksUnless, callRead}
 
 module _ (image : List ℕ) (h : Handle) (path how : List ℕ) where
   pub accepted-before : refusedTable (tableCheck image) ≡ none → refusedBefore image h path how ≡ refusedAfterTable image h path how

@@ -1,11 +1,11 @@
 // The checks of the directory handle, whose numbers may be any.
-use crate::Check;
-use crate::refuse;
 use image::records::Counts;
 use image::records::mount_root;
 use image::search::Search;
 use model::Errno;
 use model::Handle;
+use open_how::Check;
+use open_how::refuse;
 use tree::find_mount;
 use tree::is_directory;
 use tree::is_under;
@@ -15,7 +15,7 @@ ghost use Rattle.model.specs.Handles.{handleRefused};
 ghost use Rattle.model.specs.TableCheck.{tableCheck};
 ghost use Rattle.model.specs.declared.Verdict.the-variants.{Accepted};
 ghost use Rattle.image.specs.Counts.{Counted};
-ghost use Rattle.call.specs.Checks.{checkOf};
+ghost use Rattle.open_how.specs.Checks.{checkOf};
 
 // In this order: number out of range, not a directory, not under the mount's root or covered.
 pub fn check_handle(image: &[u8], c: Counts, h: Handle) -> Check

@@ -1,49 +1,26 @@
 // What refuses a call before its walk, once its table is accepted: open_how, path and handle, in the order of document 01.
 pub mod handle;
-pub mod how;
 pub mod path;
 
 use crate::handle::check_handle;
-use crate::how::How;
-use crate::how::HowRead;
-use crate::how::read_how;
 use crate::path::check_path;
 use image::records::Counts;
-use model::Errno;
 use model::Handle;
-use model::Progress;
 use model::Refusal;
+use open_how::Check;
+use open_how::How;
+use open_how::HowRead;
+use open_how::read_how;
 ghost use mathlib.Core.Path.{_≡_};
-ghost use Rattle.model.specs.Answers.{refusal, notWalked};
 ghost use Rattle.model.specs.TableCheck.{tableCheck};
 ghost use Rattle.model.specs.declared.Verdict.the-variants.{Accepted};
 ghost use Rattle.image.specs.Counts.{Counted};
-ghost use Rattle.call.specs.Checks.{callRead};
-
-// One check's answer.
-pub enum Check {
-    Passes,
-    Refused(Refusal),
-}
+ghost use Rattle.call.specs.Calls.{callRead};
 
 // What the checks before the walk say of a call: it walks by the fields of its open_how, or is refused.
 pub enum CallRead {
     Walks(How),
     Refused(Refusal),
-}
-
-// Both counts are 0 before the walk, and the detail is 255 except for unknown bits.
-fn refuse(errno: Errno) -> Check
-    ensures { λ r. ⌜ r ≡ Check.Refused (refusal errno notWalked) ⌝ }
-{
-    Check::Refused(Refusal {
-        errno,
-        detail: 255,
-        progress: Progress {
-            components: 0,
-            links: 0,
-        },
-    })
 }
 
 // The checks of a call over an accepted table: open_how, path, handle.

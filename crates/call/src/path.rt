@@ -1,11 +1,11 @@
 // The checks of the given path.
-use crate::Check;
-use crate::refuse;
 use model::Errno;
+use open_how::Check;
+use open_how::refuse;
 use strings::holds_byte;
 ghost use mathlib.Core.Path.{_≡_};
 ghost use Rattle.model.specs.Path.{pathRefused};
-ghost use Rattle.call.specs.Checks.{checkOf};
+ghost use Rattle.open_how.specs.Checks.{checkOf};
 
 // In this order: too long, empty, zero byte.
 pub fn check_path(path: &[u8]) -> Check

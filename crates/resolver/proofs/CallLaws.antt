@@ -28,8 +28,9 @@ use Rattle.model.specs.Resolve.{refusedBefore, restrictions, requestOf, traceOf
 use Rattle.model.specs.declared.Handle.{Handle}
 use Rattle.model.specs.declared.Refusal.{Refusal}
 use Rattle.model.specs.declared.Answer.the-variants.{Refused}
-use Rattle.call.specs.Checks.{fieldsOf, walksUnless}
-use Rattle.call.specs.declared.how.How.{How}
+use Rattle.open_how.specs.Checks.{fieldsOf}
+use Rattle.call.specs.Calls.{walksUnless}
+use Rattle.open_how.specs.declared.How.{How}
 use Rattle.call.specs.declared.CallRead.the-variants.{Walks, Refused as CallRefused}
 use Rattle.component.specs.Outcomes.{requestFor, restrictionsFor}
 use Rattle.resolver.specs.Asking.{askOf}

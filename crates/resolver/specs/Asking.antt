@@ -9,7 +9,7 @@ use Rattle.model.specs.Tree.{treeOf}
 use Rattle.model.specs.Walk.{rootOf}
 use Rattle.model.specs.declared.Place.{Place}
 use Rattle.model.specs.declared.Handle.{Handle}
-use Rattle.call.specs.declared.how.How.{How}
+use Rattle.open_how.specs.declared.How.{How}
 use Rattle.component.specs.declared.Ask.{Ask}
 
 -- "The root is the handle under IN_ROOT, else mount 0's root."

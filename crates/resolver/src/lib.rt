@@ -1,7 +1,6 @@
 // The resolver: a table image, a handle, a path and an open_how of any bytes to the answer.
 use call::CallRead;
 use call::check_call;
-use call::how::How;
 use component::Ask;
 use component::bits::beneath;
 use component::bits::in_root;
@@ -15,6 +14,7 @@ use model::Place;
 use model::Progress;
 use model::State;
 use model::Verdict;
+use open_how::How;
 use table::check;
 use text::ends_in_slash;
 use text::is_absolute;

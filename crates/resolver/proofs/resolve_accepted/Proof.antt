@@ -6,7 +6,7 @@ use denote.Ref.{now}
 use Rattle.model.specs.Resolve.{refusedBefore}
 use Rattle.theorems.proofs.Acceptance.{accepted-sized}
 use Rattle.image.specs.Counts.{Counted}
-use Rattle.call.specs.Checks.{fieldsOf}
+use Rattle.open_how.specs.Checks.{fieldsOf}
 use Rattle.call.proofs.CallLaws.{accepted-call}
 use Rattle.resolver.proofs.CallLaws.{walks-none, refused-some, walked, walking-of, refused-call}
 use Rattle.resolver.proofs.resolve_accepted.Statement.{statement}

@@ -4,11 +4,12 @@ use mathlib.Core.Path.{sym, ap, _∙_}
 use native.Mathlib.Omega.{arith}
 use borrow.Author.Tests.{not-true, not-false}
 use denote.Ref.{now}
+use Rattle.model.specs.Bytes.{isSome}
 use Rattle.model.specs.Tree.{treeOf, under, mountOn, covered}
 use Rattle.model.specs.Handles.{placeOf}
 use Rattle.theorems.proofs.Acceptance.{accepted-sound}
-use Rattle.call.specs.Checks.{checkOf}
-use Rattle.call.proofs.CheckLaws.{found, not-found}
+use Rattle.open_how.specs.Checks.{checkOf}
+use Rattle.image.proofs.SearchLaws.{search-at, search-nowhere}
 use Rattle.call.proofs.HandleLaws.{no-mount, no-node, no-directory, not-under, is-covered, is-good}
 use Rattle.call.proofs.handle.check_handle.Statement.{statement}
 use Rattle.call.proofs.handle.check_handle.Tie as tie
@@ -73,7 +74,7 @@ returns-5 c =
     let h = c .before .before .before .before .before .before .before .before .before .before .before .before .before .before .before .before .args .h in
     let directory = sym (c .before .before .before .before .before .before .before .before .is-directory .ensures) ∙ not-false _ (c .before .before .before .before .before .before .before .if3 .left) in
     let is-under = ap (under t (h .node)) (sym (c .before .before .before .before .before .before .mount-root .ensures .0)) ∙ sym (c .before .before .before .before .before .is-under .ensures) ∙ not-false _ (c .before .before .before .before .if4 .left) in
-    let on-it = found (mountOn t (placeOf h)) _ (sym (c .before .before .before .find-mount .ensures) ∙ c .before .enum-told .given .1) in
+    let on-it = ap isSome (search-at (mountOn t (placeOf h)) _ (sym (c .before .before .before .find-mount .ensures) ∙ c .before .enum-told .given .1)) in
     c .refuse5 .ensures ∙ sym (ap checkOf (is-covered t h (omega arith) (omega arith) directory is-under on-it))
 
 returns-6 : tie.Need-returns-6
@@ -83,7 +84,7 @@ returns-6 c =
     let h = c .before .before .before .before .before .before .before .before .before .before .before .before .before .before .before .args .h in
     let directory = sym (c .before .before .before .before .before .before .before .is-directory .ensures) ∙ not-false _ (c .before .before .before .before .before .before .if3 .left) in
     let is-under = ap (under t (h .node)) (sym (c .before .before .before .before .before .mount-root .ensures .0)) ∙ sym (c .before .before .before .before .is-under .ensures) ∙ not-false _ (c .before .before .before .if4 .left) in
-    let on-it = not-found (mountOn t (placeOf h)) (sym (c .before .before .find-mount .ensures) ∙ c .enum-told2 .given .1) in
+    let on-it = ap isSome (search-nowhere (mountOn t (placeOf h)) (sym (c .before .before .find-mount .ensures) ∙ c .enum-told2 .given .1)) in
     sym (ap checkOf (is-good t h (omega arith) (omega arith) directory is-under on-it))
 
 pub check-handle-spec : {M : Type 1} → statement M

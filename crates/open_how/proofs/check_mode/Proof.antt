@@ -1,11 +1,11 @@
--- `call::how::check_mode` meets its contract. Mode and padding stand side by side, so they are 0 where the number that they make is.
+-- `open_how::check_mode` meets its contract. Mode and padding stand side by side, so they are 0 where the number that they make is.
 -- Assumes nothing.
 use borrow.Author.Needs.{needs}
 use mathlib.Core.Path.{sym, _∙_}
 use denote.Ref.{now}
-use Rattle.call.proofs.HowLaws.{mode-clear, mode-set}
-use Rattle.call.proofs.how.check_mode.Statement.{statement}
-use Rattle.call.proofs.how.check_mode.Tie as tie
+use Rattle.open_how.proofs.HowLaws.{mode-clear, mode-set}
+use Rattle.open_how.proofs.check_mode.Statement.{statement}
+use Rattle.open_how.proofs.check_mode.Tie as tie
 
 u64-at-requires : tie.Need-u64-at-requires
 u64-at-requires c κs = search needs

@@ -1,11 +1,11 @@
--- `call::how::check_scopes` meets its contract. Each test of the code is a bit's own test. Assumes nothing.
+-- `open_how::check_scopes` meets its contract. Each test of the code is a bit's own test. Assumes nothing.
 use borrow.Author.Needs.{needs}
 use Prim.Native.Nat.{_/_, _%_}
 use mathlib.Core.Bool.{and-false}
 use borrow.Author.Tests.{eq-eqb, ne-eqb}
 use Rattle.model.specs.Bytes.{has}
-use Rattle.call.proofs.how.check_scopes.Statement.{statement}
-use Rattle.call.proofs.how.check_scopes.Tie as tie
+use Rattle.open_how.proofs.check_scopes.Statement.{statement}
+use Rattle.open_how.proofs.check_scopes.Tie as tie
 
 returns : tie.Need-returns
 unfolding has

@@ -1,12 +1,12 @@
--- `call::how::check_bits` meets its contract. The trailing zeros of the unknown part are the lowest unknown bit's number.
+-- `open_how::check_bits` meets its contract. The trailing zeros of the unknown part are the lowest unknown bit's number.
 -- Assumes nothing.
 use Prim.Native.Nat.{_-_, _^_}
 use native.Mathlib.Omega.{arith}
 use lib.Bits.{bitAnd}
 use lib.Count.{trailing-le}
-use Rattle.call.proofs.BitNumber.{no-unknown-bit, lowest-unknown-bit}
-use Rattle.call.proofs.how.check_bits.Statement.{statement}
-use Rattle.call.proofs.how.check_bits.Tie as tie
+use Rattle.open_how.proofs.BitNumber.{no-unknown-bit, lowest-unknown-bit}
+use Rattle.open_how.proofs.check_bits.Statement.{statement}
+use Rattle.open_how.proofs.check_bits.Tie as tie
 
 returns : tie.Need-returns
 returns c = rw (no-unknown-bit (c .before .args .known) (c .before .args .x) (omega arith) (c .if1 .taken))

@@ -1,6 +1,4 @@
 // The checks of open_how: u64 flags, u16 mode, 6 padding bytes, u64 resolve.
-use crate::Check;
-use crate::refuse;
 use fields::u64_at;
 use model::Errno;
 use model::Progress;
@@ -11,10 +9,10 @@ ghost use mathlib.Core.Path.{_≡_};
 ghost use Prim.Native.Nat.{_≤_};
 ghost use lib.ListN.{length};
 ghost use Rattle.model.specs.Bytes.{has};
-ghost use Rattle.model.specs.Answers.{refuseIf};
+ghost use Rattle.model.specs.Answers.{refusal, notWalked, refuseIf};
 ghost use Rattle.model.specs.OpenHow.{unknownBit, refuseUnknown, tailSet, modeSet, BENEATH, IN-ROOT};
 ghost use Rattle.model.specs.declared.Errno.the-variants.{Einval};
-ghost use Rattle.call.specs.Checks.{checkOf, lengthRefused, readHow};
+ghost use Rattle.open_how.specs.Checks.{checkOf, lengthRefused, readHow};
 
 pub const O_DIRECTORY: u64 = 0x10000;
 
@@ -39,6 +37,12 @@ pub const IN_ROOT: u64 = 16;
 
 pub const KNOWN_RESOLVE: u64 = NO_XDEV + NO_MAGICLINKS + NO_SYMLINKS + BENEATH + IN_ROOT;
 
+// One check's answer.
+pub enum Check {
+    Passes,
+    Refused(Refusal),
+}
+
 // The fields that a walk goes by: mode is 0 where it walks.
 pub struct How {
     pub flags: u64,
@@ -49,6 +53,20 @@ pub struct How {
 pub enum HowRead {
     Fields(How),
     Refused(Refusal),
+}
+
+// Both counts are 0 before the walk, and the detail is 255 except for unknown bits.
+pub fn refuse(errno: Errno) -> Check
+    ensures { λ r. ⌜ r ≡ Check.Refused (refusal errno notWalked) ⌝ }
+{
+    Check::Refused(Refusal {
+        errno,
+        detail: 255,
+        progress: Progress {
+            components: 0,
+            links: 0,
+        },
+    })
 }
 
 // Whether a byte after the 24th is not zero. No early exit: the loop is then compiled to vector code.

@@ -1,4 +1,4 @@
--- `call::how::tail_set` meets its contract. The loop's invariant: a byte of the tail is set if one was met, or one is from `i` on.
+-- `open_how::tail_set` meets its contract. The loop's invariant: a byte of the tail is set if one was met, or one is from `i` on.
 -- Assumes nothing.
 use Prim.Native.Nat.{ℕ, _-_}
 use mathlib.Core.Bool.{Bool, not, _||_}
@@ -11,9 +11,9 @@ use lib.Dec.{eqb}
 use lib.ListN.{length, getD}
 use Rattle.model.specs.Bytes.{find, isSome}
 use Rattle.model.specs.OpenHow.{tailSet}
-use Rattle.call.proofs.SearchLaws.{any-hit, any-miss, any-done}
-use Rattle.call.proofs.how.tail_set.Statement.{statement}
-use Rattle.call.proofs.how.tail_set.Tie as tie
+use Rattle.open_how.proofs.SearchLaws.{any-hit, any-miss, any-done}
+use Rattle.open_how.proofs.tail_set.Statement.{statement}
+use Rattle.open_how.proofs.tail_set.Tie as tie
 
 abbrev Inv-loop : tie.InvT-loop
 Inv-loop how set₀ i₀ set i = tailSet how ≡ (set || isSome (find (λ k. not (eqb (getD how k 0) 0)) i (length how - i)))

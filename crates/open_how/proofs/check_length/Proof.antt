@@ -1,12 +1,12 @@
--- `call::how::check_length` meets its contract. Each return rewrites the definition with the tests that led there. Assumes nothing.
+-- `open_how::check_length` meets its contract. Each return rewrites the definition with the tests that led there. Assumes nothing.
 use borrow.Author.Needs.{needs}
 use mathlib.Core.Path.{sym, _∙_}
 use borrow.Author.Tests.{lt-ltb, le-ltb}
 use denote.Ref.{now}
 use lib.ListN.{length}
-use Rattle.call.specs.Checks.{lengthRefused}
-use Rattle.call.proofs.how.check_length.Statement.{statement}
-use Rattle.call.proofs.how.check_length.Tie as tie
+use Rattle.open_how.specs.Checks.{lengthRefused}
+use Rattle.open_how.proofs.check_length.Statement.{statement}
+use Rattle.open_how.proofs.check_length.Tie as tie
 
 refuse-requires : tie.Need-refuse-requires
 refuse-requires c κs = search needs

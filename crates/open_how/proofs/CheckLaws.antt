@@ -4,17 +4,15 @@ use mathlib.Core.Bool.{Bool, true, false}
 use mathlib.Core.Option.{Option, none, some}
 use mathlib.Core.Path.{_≡_, refl}
 use native.Mathlib.Omega.{arith}
-use Rattle.model.specs.Bytes.{orElse, isSome}
+use Rattle.model.specs.Bytes.{orElse}
 use Rattle.model.specs.Answers.{refuseIf}
 use Rattle.model.specs.OpenHow.{refuseUnknown}
 use Rattle.model.specs.declared.Errno.{Errno}
 use Rattle.model.specs.declared.Refusal.{Refusal}
-use Rattle.image.specs.Searches.{searchOf}
-use Rattle.image.specs.declared.search.Search.the-variants.{At, Nowhere}
-use Rattle.call.specs.Checks.{checkOf, fieldsUnless}
-use Rattle.call.specs.declared.Check.the-variants.{Passes, Refused}
-use Rattle.call.specs.declared.how.How.{How}
-use Rattle.call.specs.declared.how.HowRead.the-variants.{Fields, Refused as HowRefused}
+use Rattle.open_how.specs.Checks.{checkOf, fieldsUnless}
+use Rattle.open_how.specs.declared.Check.the-variants.{Passes, Refused}
+use Rattle.open_how.specs.declared.How.{How}
+use Rattle.open_how.specs.declared.HowRead.the-variants.{Fields, Refused as HowRefused}
 
 -- a check's answer tells the refusal that it stands for
 pub passed : (o : Option Refusal) → checkOf o ≡ Passes → o ≡ none
@@ -32,15 +30,6 @@ how-passed (some r) f g e = let z : _≡_ {A = ℕ} 0 1 = cc in absurd (omega ar
 pub how-stopped : (o : Option Refusal) (f : How) (r : Refusal) → fieldsUnless o f ≡ HowRefused r → o ≡ some r
 how-stopped none f r e = let z : _≡_ {A = ℕ} 0 1 = cc in absurd (omega arith)
 how-stopped (some q) f r e = cc
-
--- a search's answer tells whether there is something to find
-pub found : (o : Option ℕ) (n : ℕ) → searchOf o ≡ At n → isSome o ≡ true
-found none n e = let z : _≡_ {A = ℕ} 0 1 = cc in absurd (omega arith)
-found (some k) n e = refl
-
-pub not-found : (o : Option ℕ) → searchOf o ≡ Nowhere → isSome o ≡ false
-not-found none e = refl
-not-found (some k) e = let z : _≡_ {A = ℕ} 0 1 = cc in absurd (omega arith)
 
 -- a check with those after it is the check alone, and then those
 pub refuse-then : (b : Bool) (e : Errno) (later : Option Refusal) → refuseIf b e later ≡ orElse (refuseIf b e none) later

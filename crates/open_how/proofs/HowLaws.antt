@@ -15,8 +15,8 @@ use Rattle.model.specs.declared.Refusal.{Refusal}
 use Rattle.model.specs.declared.Errno.the-variants.{Einval, E2big}
 use Rattle.theorems.proofs.ByteLaws.{field-split}
 use Rattle.theorems.proofs.Refusals.{passes}
-use Rattle.call.specs.Checks.{lengthRefused, fieldsOf}
-use Rattle.call.proofs.CheckLaws.{refuse-then, unknown-then}
+use Rattle.open_how.specs.Checks.{lengthRefused, fieldsOf}
+use Rattle.open_how.proofs.CheckLaws.{refuse-then, unknown-then}
 
 -- mode and padding, read as one number
 mode-padding : (how : List ℕ) → field 8 how 8 ≡ modeOf how + 65536 * paddingOf how

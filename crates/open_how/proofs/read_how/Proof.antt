@@ -1,16 +1,16 @@
--- `call::how::read_how` meets its contract. The checks are the definition's, in its order, and the first that refuses decides.
+-- `open_how::read_how` meets its contract. The checks are the definition's, in its order, and the first that refuses decides.
 -- Assumes nothing.
 use borrow.Author.Needs.{needs}
 use mathlib.Core.Path.{refl, sym, ap, _∙_}
 use native.Mathlib.Omega.{arith}
 use denote.Ref.{now}
 use Rattle.model.specs.Bytes.{field}
-use Rattle.call.specs.Checks.{lengthRefused, readHow}
-use Rattle.call.specs.declared.how.HowRead.the-variants.{Fields}
-use Rattle.call.proofs.CheckLaws.{passed, stopped}
-use Rattle.call.proofs.HowLaws.{flagsRefused, resolveRefused, scopesRefused, modeRefused, read-steps, read-fields, length-long}
-use Rattle.call.proofs.how.read_how.Statement.{statement}
-use Rattle.call.proofs.how.read_how.Tie as tie
+use Rattle.open_how.specs.Checks.{lengthRefused, readHow}
+use Rattle.open_how.specs.declared.HowRead.the-variants.{Fields}
+use Rattle.open_how.proofs.CheckLaws.{passed, stopped}
+use Rattle.open_how.proofs.HowLaws.{flagsRefused, resolveRefused, scopesRefused, modeRefused, read-steps, read-fields, length-long}
+use Rattle.open_how.proofs.read_how.Statement.{statement}
+use Rattle.open_how.proofs.read_how.Tie as tie
 
 check-length-requires : tie.Need-check-length-requires
 check-length-requires c κs = search needs

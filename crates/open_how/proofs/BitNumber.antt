@@ -12,7 +12,7 @@ use lib.Dec.{eqb}
 use lib.Pow.{shr-shr, ones-sub-lt}
 use Rattle.model.specs.Bytes.{has, find}
 use Rattle.model.specs.OpenHow.{unknownBit}
-use Rattle.call.proofs.SearchLaws.{find-same}
+use Rattle.open_how.proofs.SearchLaws.{find-same}
 
 digit-and : (p q : ℕ) → p < 2 → q < 2 → eqb (min p q) 1 ≡ (eqb p 1 && eqb q 1)
 digit-and zero zero hp hq = refl

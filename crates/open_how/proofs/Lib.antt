@@ -1,0 +1,4 @@
+pub mod SearchLaws
+pub mod BitNumber
+pub mod CheckLaws
+pub mod HowLaws
