@@ -1,45 +1,16 @@
 //! The proved side: Ventolaire's own library, called as a C program would.
 //!
-//! The binding in `bindings/rust` is not used. Its `check` makes a `Result` of
-//! the numbers, which costs 20 instructions a call, 1 % of the smallest case;
-//! and it leaves out `ventolaire_resolve_times`, which is there to measure.
+//! Of the binding in `bindings/rust` only the declarations are used. Its `check`
+//! makes a `Result` of the numbers, which costs 20 instructions a call, 1 % of
+//! the smallest case; and it leaves out `ventolaire_resolve_times`, which is
+//! there to measure.
+
+#[path = "../../bindings/rust/src/declared.rs"]
+mod declared;
 
 use crate::plain::Handle;
 use crate::tables::Numbers;
-
-extern "C" {
-    fn ventolaire_check(image: *const u8, image_len: usize, out: *mut u64, out_len: usize)
-        -> usize;
-
-    fn ventolaire_resolve(
-        image: *const u8,
-        image_len: usize,
-        mount: u64,
-        node: u64,
-        mark: bool,
-        path: *const u8,
-        path_len: usize,
-        how: *const u8,
-        how_len: usize,
-        out: *mut u64,
-        out_len: usize,
-    ) -> usize;
-
-    fn ventolaire_resolve_times(
-        image: *const u8,
-        image_len: usize,
-        mount: u64,
-        node: u64,
-        mark: bool,
-        path: *const u8,
-        path_len: usize,
-        how: *const u8,
-        how_len: usize,
-        times: usize,
-        out: *mut u64,
-        out_len: usize,
-    ) -> usize;
-}
+use declared::{ventolaire_check, ventolaire_resolve, ventolaire_resolve_times};
 
 /// What stands in an output before the call. It is part of no answer, so a call
 /// that writes nothing gives a wrong one.

@@ -1,25 +1,7 @@
-//! The library's C functions, and all of this crate that is unsafe.
+//! The library's C functions called, and all of this crate that is unsafe.
 
+use crate::declared::{ventolaire_check, ventolaire_resolve};
 use crate::Handle;
-
-extern "C" {
-    fn ventolaire_check(image: *const u8, image_len: usize, out: *mut u64, out_len: usize)
-        -> usize;
-
-    fn ventolaire_resolve(
-        image: *const u8,
-        image_len: usize,
-        mount: u64,
-        node: u64,
-        mark: bool,
-        path: *const u8,
-        path_len: usize,
-        how: *const u8,
-        how_len: usize,
-        out: *mut u64,
-        out_len: usize,
-    ) -> usize;
-}
 
 /// What stands in an output before the call. Neither a rule nor an errno, so
 /// numbers that a library failed to write read as a refusal.
@@ -61,27 +43,9 @@ pub fn resolve(image: &[u8], handle: Handle, path: &[u8], how: &[u8]) -> [u64; 6
 mod tests {
     use super::*;
     use crate::bench_tree::IMAGE;
+    use crate::declared::{ventolaire_errnos, ventolaire_resolve_times};
     use crate::Errno;
     use std::ptr;
-
-    extern "C" {
-        fn ventolaire_resolve_times(
-            image: *const u8,
-            image_len: usize,
-            mount: u64,
-            node: u64,
-            mark: bool,
-            path: *const u8,
-            path_len: usize,
-            how: *const u8,
-            how_len: usize,
-            times: usize,
-            out: *mut u64,
-            out_len: usize,
-        ) -> usize;
-
-        fn ventolaire_errnos(out: *mut u64, out_len: usize) -> usize;
-    }
 
     const ROOM: usize = 12;
 

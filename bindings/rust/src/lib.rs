@@ -3,6 +3,8 @@
 
 mod answer;
 pub mod bench_tree;
+#[allow(unsafe_code)]
+mod declared;
 mod errno;
 #[allow(unsafe_code)]
 mod ffi;

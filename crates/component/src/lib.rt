@@ -1,5 +1,4 @@
 // One component of a walk, with no list of open texts: where it leads from a place, under the restrictions that are set.
-pub mod bits;
 mod links;
 mod moves;
 

@@ -1,17 +1,18 @@
 // Following a link: its events under the restrictions, and where it leads.
 use crate::Ask;
 use crate::Outcome;
-use crate::bits::beneath;
-use crate::bits::in_root;
-use crate::bits::no_magiclinks;
-use crate::bits::no_symlinks;
-use crate::bits::no_xdev;
 use image::records::Counts;
 use image::records::node_count;
 use image::records::node_first;
 use image::texts::body;
 use model::Errno;
 use model::Place;
+use open_how::BENEATH;
+use open_how::IN_ROOT;
+use open_how::NO_MAGICLINKS;
+use open_how::NO_SYMLINKS;
+use open_how::NO_XDEV;
+use open_how::has;
 use text::is_absolute;
 ghost use mathlib.Core.Bool.{true, not, _&&_};
 ghost use lib.Dec.{eqb};
@@ -32,7 +33,7 @@ fn barred(resolve: u64, m: usize, n: usize) -> bool
     if m == n {
         return false;
     }
-    no_xdev(resolve)
+    has(resolve, NO_XDEV)
 }
 
 // Events Link and Magic, then the target; under IN_ROOT it is refused.
@@ -40,23 +41,23 @@ fn follow_magic(image: &[u8], k: Ask, p: Place, n: usize) -> Outcome
     requires { ⌜ Sized (now image) × (n < treeOf (now image) .nodes) ⌝ }
     ensures { λ r. ⌜ r ≡ unlimited (restrictionsFor k) (magicLink (requestFor (now (image .entry)) k) p n) ⌝ }
 {
-    if no_symlinks(k.resolve) {
+    if has(k.resolve, NO_SYMLINKS) {
         return Outcome::Stop(Errno::Eloop);
     }
     if k.mark {
         return Outcome::Stop(Errno::Enoent);
     }
-    if no_magiclinks(k.resolve) {
+    if has(k.resolve, NO_MAGICLINKS) {
         return Outcome::Stop(Errno::Eloop);
     }
     let mount = node_first(image, n);
     if barred(k.resolve, mount, p.mount) {
         return Outcome::Stop(Errno::Exdev);
     }
-    if beneath(k.resolve) {
+    if has(k.resolve, BENEATH) {
         return Outcome::Stop(Errno::Exdev);
     }
-    if in_root(k.resolve) {
+    if has(k.resolve, IN_ROOT) {
         return Outcome::Stop(Errno::Exdev);
     }
     let node = node_count(image, n);
@@ -68,7 +69,7 @@ fn follow_symbolic(image: &[u8], c: Counts, k: Ask, p: Place, n: usize) -> Outco
     requires { ⌜ Walking (now image) c k × (n < treeOf (now image) .nodes) × (treeOf (now image) .kind n ≡ 3) ⌝ }
     ensures { λ r. ⌜ r ≡ unlimited (restrictionsFor k) (symbolicLink (requestFor (now (image .entry)) k) p n) ⌝ }
 {
-    if no_symlinks(k.resolve) {
+    if has(k.resolve, NO_SYMLINKS) {
         return Outcome::Stop(Errno::Eloop);
     }
     if !is_absolute(body(image, c, n)) {
@@ -77,7 +78,7 @@ fn follow_symbolic(image: &[u8], c: Counts, k: Ask, p: Place, n: usize) -> Outco
     if k.mark {
         return Outcome::Stop(Errno::Enoent);
     }
-    if beneath(k.resolve) {
+    if has(k.resolve, BENEATH) {
         return Outcome::Stop(Errno::Exdev);
     }
     let root = k.root;

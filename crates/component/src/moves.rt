@@ -1,8 +1,6 @@
 // Moves with no link in them: entering a mount, and "..".
 use crate::Ask;
 use crate::Outcome;
-use crate::bits::beneath;
-use crate::bits::no_xdev;
 use image::records::Counts;
 use image::records::mount_parent;
 use image::records::mount_point;
@@ -11,6 +9,9 @@ use image::records::node_parent;
 use image::search::Search;
 use model::Errno;
 use model::Place;
+use open_how::BENEATH;
+use open_how::NO_XDEV;
+use open_how::has;
 use tree::find_mount;
 ghost use mathlib.Core.Bool.{true};
 ghost use mathlib.Core.Path.{_≡_};
@@ -38,7 +39,7 @@ pub fn enter(image: &[u8], c: Counts, mark: bool, resolve: u64, p: Place) -> Out
     let found = find_mount(image, c, p.mount, p.node);
     match found {
         Search::At(m) => {
-            if no_xdev(resolve) {
+            if has(resolve, NO_XDEV) {
                 return Outcome::Stop(Errno::Exdev);
             }
             let root = mount_root(image, c, m);
@@ -76,7 +77,7 @@ fn climb(image: &[u8], c: Counts, mark: bool, resolve: u64, p: Place) -> Outcome
     if p.node != mount_root(image, c, p.mount) {
         return to_parent(image, c, mark, resolve, p);
     }
-    if no_xdev(resolve) {
+    if has(resolve, NO_XDEV) {
         return Outcome::Stop(Errno::Exdev);
     }
     let parent = mount_parent(image, c, p.mount);
@@ -127,7 +128,7 @@ pub fn go_up(image: &[u8], c: Counts, k: Ask, p: Place) -> Outcome
     if k.mark {
         return Outcome::Stop(Errno::Enoent);
     }
-    if beneath(k.resolve) {
+    if has(k.resolve, BENEATH) {
         return Outcome::Stop(Errno::Exdev);
     }
     up_from(image, c, k, p)

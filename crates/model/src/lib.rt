@@ -33,7 +33,7 @@ pub struct Reached {
     pub progress: Progress,
 }
 
-// The error numbers that the resolver gives, by their usual names. Errno.antt in specs/ has each one's number.
+// The error numbers that the resolver gives, by their usual names. Answers.antt in specs/ has each one's number.
 pub enum Errno {
     Euclean,
     E2big,

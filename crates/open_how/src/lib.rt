@@ -6,7 +6,7 @@ use model::Refusal;
 ghost use mathlib.Core.Bool.{_&&_};
 ghost use mathlib.Core.Option.{none};
 ghost use mathlib.Core.Path.{_≡_};
-ghost use Prim.Native.Nat.{_≤_};
+ghost use Prim.Native.Nat.{_≤_, _<_};
 ghost use lib.ListN.{length};
 ghost use Rattle.model.specs.Bytes.{has};
 ghost use Rattle.model.specs.Answers.{refusal, notWalked, refuseIf};
@@ -36,6 +36,14 @@ pub const BENEATH: u64 = 8;
 pub const IN_ROOT: u64 = 16;
 
 pub const KNOWN_RESOLVE: u64 = NO_XDEV + NO_MAGICLINKS + NO_SYMLINKS + BENEATH + IN_ROOT;
+
+// Whether a number has the bit whose value is given.
+pub fn has(x: u64, bit: u64) -> bool
+    requires { ⌜ 0 < bit ⌝ }
+    ensures { λ r. ⌜ r ≡ has bit x ⌝ }
+{
+    x / bit % 2 == 1
+}
 
 // One check's answer.
 pub enum Check {
@@ -124,10 +132,10 @@ fn check_bits(x: u64, known: u64, base: u32) -> Check
 fn check_scopes(resolve: u64) -> Check
     ensures { λ r. ⌜ r ≡ checkOf (refuseIf (has BENEATH resolve && has IN-ROOT resolve) Einval none) ⌝ }
 {
-    if resolve / BENEATH % 2 != 1 {
+    if !has(resolve, BENEATH) {
         return Check::Passes;
     }
-    if resolve / IN_ROOT % 2 != 1 {
+    if !has(resolve, IN_ROOT) {
         return Check::Passes;
     }
     refuse(Errno::Einval)

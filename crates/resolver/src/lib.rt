@@ -2,8 +2,6 @@
 use call::CallRead;
 use call::check_call;
 use component::Ask;
-use component::bits::beneath;
-use component::bits::in_root;
 use image::records::Counts;
 use image::records::mount_root;
 use image::records::read_counts;
@@ -14,7 +12,13 @@ use model::Place;
 use model::Progress;
 use model::State;
 use model::Verdict;
+use open_how::BENEATH;
 use open_how::How;
+use open_how::IN_ROOT;
+use open_how::O_DIRECTORY;
+use open_how::O_NOFOLLOW;
+use open_how::O_PATH;
+use open_how::has;
 use table::check;
 use text::ends_in_slash;
 use text::is_absolute;
@@ -92,36 +96,18 @@ fn walk_path<'a>(image: &'a [u8], c: Counts, k: Ask, path: &'a [u8], directory: 
     if k.mark {
         return refuse(Errno::Enoent, none);
     }
-    if beneath(k.resolve) {
+    if has(k.resolve, BENEATH) {
         return refuse(Errno::Exdev, none);
     }
     let root = k.root;
     begin(image, c, k, path, directory, root)
 }
 
-fn has_directory(flags: u64) -> bool
-    ensures { λ r. ⌜ r ≡ has O-DIRECTORY flags ⌝ }
-{
-    flags / 65536 % 2 == 1
-}
-
-fn has_nofollow(flags: u64) -> bool
-    ensures { λ r. ⌜ r ≡ has O-NOFOLLOW flags ⌝ }
-{
-    flags / 131072 % 2 == 1
-}
-
-fn has_path(flags: u64) -> bool
-    ensures { λ r. ⌜ r ≡ has O-PATH flags ⌝ }
-{
-    flags / 2097152 % 2 == 1
-}
-
 // "A last link is followed unless O_NOFOLLOW is set and the given path does not end in "/"."
 fn follows_last(flags: u64, slash: bool) -> bool
     ensures { λ r. ⌜ r ≡ not (has O-NOFOLLOW flags) || slash ⌝ }
 {
-    if has_nofollow(flags) {
+    if has(flags, O_NOFOLLOW) {
         return slash;
     }
     true
@@ -131,7 +117,7 @@ fn follows_last(flags: u64, slash: bool) -> bool
 fn needs_directory(flags: u64, slash: bool) -> bool
     ensures { λ r. ⌜ r ≡ has O-DIRECTORY flags || slash ⌝ }
 {
-    if has_directory(flags) {
+    if has(flags, O_DIRECTORY) {
         return true;
     }
     slash
@@ -142,7 +128,7 @@ fn root_of(image: &[u8], c: Counts, h: Handle, resolve: u64) -> Place
     requires { ⌜ Reading (now image) c ⌝ }
     ensures { λ r. ⌜ r ≡ rootFor (now (image .entry)) h resolve ⌝ }
 {
-    if in_root(resolve) {
+    if has(resolve, IN_ROOT) {
         return Place {
             mount: h.mount,
             node: h.node,
@@ -161,7 +147,7 @@ fn ask(image: &[u8], c: Counts, h: Handle, f: How, slash: bool) -> Ask
     let flags = f.flags;
     let root = root_of(image, c, h, resolve);
     let follow = follows_last(flags, slash);
-    let opath = has_path(flags);
+    let opath = has(flags, O_PATH);
     Ask {
         handle: Place {
             mount: h.mount,

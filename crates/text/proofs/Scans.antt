@@ -4,25 +4,21 @@ use mathlib.Core.Bool.{false}
 use mathlib.Core.List.{List, [], _∷_}
 use mathlib.Core.Path.{_≡_, refl}
 use native.Mathlib.Omega.{arith}
-use native.Mathlib.Numerals.{add-one}
-use lib.ListN.{length, getD, drop, drop-of-length-le}
-use lib.Seq.{drop-cons}
+use lib.ListN.{length, getD, drop-of-length-le}
 use borrow.Author.Tests.{eq-eqb, ne-eqb}
 use Rattle.model.specs.Path.{isSlash, upToSlash, absolute, endsInSlash}
+use Rattle.theorems.proofs.StringLaws.{next}
 use Rattle.text.specs.Positions.{slashes, pastSlashes, componentEnd}
 
 module _ (s : List ℕ) (at : ℕ) where
-  next : at < length s → drop at s ≡ getD s at 0 ∷ drop (at + 1) s
-  next h = rw (add-one, drop-cons s at 0)
-
   -- a component ends at a slash, goes on at any other byte, and ends where the text does
   pub end-here : at < length s → getD s at 0 ≡ 47 → componentEnd s at ≡ at
   unfolding upToSlash
-  end-here h e = rw (next h, eq-eqb (getD s at 0) 47 e) (omega arith)
+  end-here h e = rw (next s at h, eq-eqb (getD s at 0) 47 e) (omega arith)
 
   pub end-on : at < length s → (getD s at 0 ≡ 47 → ⊥) → componentEnd s at ≡ componentEnd s (at + 1)
   unfolding upToSlash
-  end-on h e = rw (next h, ne-eqb (getD s at 0) 47 e) (omega arith)
+  end-on h e = rw (next s at h, ne-eqb (getD s at 0) 47 e) (omega arith)
 
   pub end-done : length s ≤ at → componentEnd s at ≡ at
   unfolding upToSlash
@@ -31,11 +27,11 @@ module _ (s : List ℕ) (at : ℕ) where
   -- slashes go on at a slash, and end at any other byte and where the text does
   pub past-on : at < length s → getD s at 0 ≡ 47 → pastSlashes s at ≡ pastSlashes s (at + 1)
   unfolding slashes
-  past-on h e = rw (next h, eq-eqb (getD s at 0) 47 e) (omega arith)
+  past-on h e = rw (next s at h, eq-eqb (getD s at 0) 47 e) (omega arith)
 
   pub past-here : at < length s → (getD s at 0 ≡ 47 → ⊥) → pastSlashes s at ≡ at
   unfolding slashes
-  past-here h e = rw (next h, ne-eqb (getD s at 0) 47 e) (omega arith)
+  past-here h e = rw (next s at h, ne-eqb (getD s at 0) 47 e) (omega arith)
 
   pub past-done : length s ≤ at → pastSlashes s at ≡ at
   unfolding slashes

@@ -1,7 +1,7 @@
 -- What acceptance implies: that every record of an accepted table keeps its rule, and what the walk rests on. Assumes nothing.
-use Prim.Native.Nat.{ℕ, zero, suc, _+_, _-_, _*_, _≤_, _<_, zero-le}
-use mathlib.Core.Bool.{Bool, true, false, cond, not, _&&_, _||_, true≢false, false≢true}
-use mathlib.Core.List.{List, [], _∷_}
+use Prim.Native.Nat.{ℕ, zero, suc, _+_, _-_, _≤_, _<_}
+use mathlib.Core.Bool.{Bool, true, false, not, _&&_, true≢false}
+use mathlib.Core.List.{List}
 use mathlib.Core.Option.{Option, none, some}
 use mathlib.Core.Path.{_≡_, refl, sym, ap, _∙_, subst}
 use mathlib.Core.Logic.{⊎-elim}
@@ -10,12 +10,12 @@ use native.Mathlib.Omega.{arith}
 use lib.Dec.{eqb, ltb, leb}
 use lib.ListN.{length, length-take, length-drop}
 use borrow.Author.Tests.{ltb-true, leb-true, eqb-true, eq-eqb, not-true}
-use Rattle.model.specs.Bytes.{contains, sameBytes, ascii, part, find, firstFailing, orElse}
-use Rattle.model.specs.Tree.{Tree, treeOf, mountAt, entryAt, textAt, byKind, isDirectory, lookup, under, mountOn}
+use Rattle.model.specs.Bytes.{contains, sameBytes, ascii, part, firstFailing, orElse}
+use Rattle.model.specs.Tree.{Tree, treeOf, mountAt, entryAt, textAt, isDirectory, lookup, under, mountOn}
 use Rattle.model.specs.TableCheck.{unless, rule1, rule2, rule3, countsFit, wholeLength, directoryCount, countsBefore, directoryHolds, symlinkHolds, nodeHolds, rule4, nameHolds, ascends, standsInParent, entryHolds, rule5, pointHolds, sharesPoint, hangs, mountHolds, rule6, targetHolds, magicTargetHolds, rule7, breaks, recordsCheck, tableCheck}
 use Rattle.model.specs.declared.Place.{Place}
 use Rattle.model.specs.declared.Verdict.{Verdict}
-use Rattle.model.specs.declared.Verdict.the-variants.{Accepted, Broken}
+use Rattle.model.specs.declared.Verdict.the-variants.{Accepted}
 use Rattle.theorems.specs.Acceptance.{Sized, NodesHold, MountsHold, Sound}
 use Rattle.theorems.proofs.ByteLaws.{firstFailing-none, find-some}
 use Rattle.theorems.proofs.Cases.{some-not-none, both}

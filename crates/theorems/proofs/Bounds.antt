@@ -1,33 +1,28 @@
 -- "At most 40 links are followed and at most 83,968 components taken (41 texts of at most 2,048).", whatever the bytes. Assumes nothing.
-use Prim.Native.Nat.{ℕ, zero, suc, _+_, _*_, _≤_, _<_}
-use mathlib.Core.Bool.{Bool, true, false, cond, not, _&&_, _||_}
+use Prim.Native.Nat.{ℕ, zero, suc, _+_, _*_, _≤_}
+use mathlib.Core.Bool.{Bool, true, false, not, _&&_, _||_}
 use mathlib.Core.List.{List, [], _∷_, _++_}
 use mathlib.Core.Option.{Option, none, some}
-use mathlib.Core.Path.{_≡_, refl, sym, ap, _∙_, subst}
+use mathlib.Core.Path.{_≡_, refl, sym, subst}
 use native.Mathlib.Omega.{arith}
-use lib.Dec.{eqb, ltb, lit≤}
+use lib.Dec.{lit≤}
 use lib.ListN.{length, length-append}
-use borrow.Author.Tests.{ltb-true, ltb-false, not-false}
-use Rattle.model.specs.Bytes.{has, orElse, contains}
-use Rattle.model.specs.Tree.{Tree, treeOf, isDirectory, isLink, under, covered}
-use Rattle.model.specs.TableCheck.{tableCheck}
-use Rattle.model.specs.Answers.{progressOf, notWalked, refusal, refused, refuseIf, unknown}
-use Rattle.model.specs.OpenHow.{howRefused, refuseUnknown, unknownBit, knownFlags, knownResolve, flagsOf, resolveOf, tailSet, bothScopes, modeSet, IN-ROOT, O-DIRECTORY}
-use Rattle.model.specs.Path.{Component, isSlash, consIf, upToSlash, componentsFrom, components, absolute, endsInSlash, pathRefused, givenPath}
-use Rattle.model.specs.Handles.{placeOf, handleRefused}
-use Rattle.model.specs.Trace.{Event, Start, Restrictions, Trace, stop, meet, stand, meets, forbids, refusedBy, answer}
+use Rattle.model.specs.Bytes.{has}
+use Rattle.model.specs.Tree.{treeOf, isDirectory, isLink}
+use Rattle.model.specs.Answers.{progressOf, notWalked}
+use Rattle.model.specs.OpenHow.{flagsOf, resolveOf, IN-ROOT, O-DIRECTORY}
+use Rattle.model.specs.Path.{Component, isSlash, consIf, upToSlash, componentsFrom, components, absolute, endsInSlash, givenPath}
+use Rattle.model.specs.Handles.{placeOf}
+use Rattle.model.specs.Trace.{Event, Restrictions, Trace, stop, meet, stand, meets, forbids, refusedBy, answer}
 use Rattle.model.specs.Walk.{Request, rootOf, Landing, outside, target, reading, Step, fail, go, follow, oneComponent, taken, standingOn, followedTo, finish, isEmpty, Follow, land, followOn, followNone, continue, walkPending, walk, beginAt, walkPath}
-use Rattle.model.specs.Resolve.{refusedTable, refusedBefore, restrictions, requestOf, traceOf, unlessRefused, resolve}
+use Rattle.model.specs.Resolve.{refusedBefore, restrictions, requestOf, traceOf, unlessRefused, resolve}
 use Rattle.model.specs.declared.Place.{Place}
 use Rattle.model.specs.declared.Progress.{Progress}
 use Rattle.model.specs.declared.State.{State}
 use Rattle.model.specs.declared.Handle.{Handle}
 use Rattle.model.specs.declared.Refusal.{Refusal}
 use Rattle.model.specs.declared.Errno.{Errno}
-use Rattle.model.specs.declared.Errno.the-variants.{Einval, E2big, Ebadf, Enotdir, Enametoolong, Enoent}
 use Rattle.model.specs.declared.Answer.{Answer}
-use Rattle.model.specs.declared.Verdict.{Verdict}
-use Rattle.model.specs.declared.Verdict.the-variants.{Accepted, Broken}
 use Rattle.theorems.specs.Bounded.{Bounded, EveryWalk}
 use Rattle.theorems.proofs.Cases.{cond-cases}
 use Rattle.theorems.specs.Acceptance.{Sound}

@@ -1,16 +1,14 @@
 -- Laws of the readings and searches of specs/Bytes.antt. Assumes nothing.
 use Prim.Native.Nat.{ℕ, zero, suc, _+_, _-_, _*_, _/_, _%_, _^_, _≤_, _<_}
 use mathlib.Core.Bool.{Bool, true, false, cond, not, true≢false}
-use mathlib.Core.List.{List, [], _∷_, _++_}
+use mathlib.Core.List.{List, _∷_, _++_}
 use mathlib.Core.Option.{Option, none, some}
 use mathlib.Core.Path.{_≡_, refl, sym, ap, ap₂, _∙_}
 use native.Mathlib.Omega.{arith}
-use native.Mathlib.Numerals.{add-one}
 use native.Mathlib.Nat.{eq-or-lt-of-le, zero-add, add-zero, suc-add, pow-suc}
 use mathlib.Core.Logic.{_⊎_, inl, inr, ⊎-elim}
 use borrow.Author.Tests.{not-false}
-use lib.ListN.{getD, length}
-use lib.Dec.{eqb}
+use lib.ListN.{getD}
 use Rattle.model.specs.Bytes.{field, fieldBytes, find, firstFailing, orElse, isSome}
 use Rattle.theorems.proofs.Cases.{some-not-none}
 

@@ -1,10 +1,10 @@
 -- Demand 3 of two calls of `resolve`, and its corollary: an added restriction can only stop a walk. Assumes nothing.
-use Prim.Native.Nat.{ℕ, zero, suc, _+_, _-_, _*_, _/_, _%_, _^_, _≤_, _<_}
+use Prim.Native.Nat.{ℕ, zero, suc, _+_, _-_, _^_, _≤_, _<_}
 use mathlib.Core.Bool.{Bool, true, false, cond, not, _&&_, _||_, and-false, or-false, true≢false}
-use mathlib.Core.List.{List, [], _∷_}
-use mathlib.Core.Logic.{_⊎_, inl, inr, ⊎-elim}
+use mathlib.Core.List.{List}
+use mathlib.Core.Logic.{inl, inr, ⊎-elim}
 use mathlib.Core.Option.{Option, none, some}
-use mathlib.Core.Path.{_≡_, refl, sym, ap, ap₂, _∙_, subst}
+use mathlib.Core.Path.{_≡_, refl, sym, ap, _∙_}
 use native.Mathlib.Omega.{arith}
 use lib.Bits.{bitOr}
 use lib.Dec.{eqb, ltb, lit<}
@@ -13,23 +13,20 @@ use lib.ListN.{length, getD, set, length-set}
 use lib.Seq.{getD-set-same, getD-set-other}
 use native.Mathlib.Nat.{lt-irrefl, lt-of-le-of-lt}
 use borrow.Author.Tests.{ltb-true, ltb-false}
-use Rattle.model.specs.Bytes.{field, has, find, isSome, orElse}
+use Rattle.model.specs.Bytes.{field, has, isSome}
 use Rattle.model.specs.Tree.{Tree, treeOf}
-use Rattle.model.specs.TableCheck.{tableCheck}
-use Rattle.model.specs.Answers.{refused, refuseIf, refusal, notWalked}
-use Rattle.model.specs.OpenHow.{flagsOf, modeOf, paddingOf, resolveOf, unknownBit, refuseUnknown, tailSet, bothScopes, modeSet, howRefused, knownFlags, knownResolve, NO-XDEV, NO-MAGICLINKS, NO-SYMLINKS, BENEATH, IN-ROOT}
+use Rattle.model.specs.Answers.{refused}
+use Rattle.model.specs.OpenHow.{flagsOf, modeOf, paddingOf, resolveOf, unknownBit, tailSet, bothScopes, modeSet, howRefused, knownResolve, NO-XDEV, NO-MAGICLINKS, NO-SYMLINKS, BENEATH, IN-ROOT}
 use Rattle.model.specs.Handles.{placeOf, handleRefused}
-use Rattle.model.specs.Trace.{Restriction, mark, beneath, noXdev, noSymlinks, noMagiclinks, Restrictions, answer}
-use Rattle.model.specs.Resolve.{refusedTable, refusedBefore, restrictions, requestOf, traceOf, resolve}
-use Rattle.theorems.specs.Adding.{addedBits, Adds, Meeting, eventsOf, firstForbidden, withBits, withMark, OnlyStops, Demand3}
+use Rattle.model.specs.Trace.{Restriction, mark, beneath, noXdev, noSymlinks, noMagiclinks, Restrictions}
+use Rattle.model.specs.Resolve.{refusedBefore, restrictions, requestOf, traceOf, resolve}
+use Rattle.theorems.specs.Adding.{Added, addedBits, Adds, Meeting, eventsOf, firstForbidden, withBits, withMark, OnlyStops, Demand3}
 use Rattle.model.specs.declared.Handle.{Handle}
 use Rattle.model.specs.declared.Progress.{Progress}
 use Rattle.model.specs.declared.Reached.{Reached}
 use Rattle.model.specs.declared.Refusal.{Refusal}
 use Rattle.model.specs.declared.Answer.the-variants.{Found}
-use Rattle.model.specs.declared.Verdict.the-variants.{Accepted}
 use Rattle.model.specs.declared.Errno.{Errno}
-use Rattle.model.specs.declared.Errno.the-variants.{Einval, E2big}
 use Rattle.theorems.proofs.ByteLaws.{field-ext, find-ext}
 use Rattle.theorems.proofs.Cases.{some-not-none}
 use Rattle.theorems.proofs.BitLaws.{has-or, has-or-high, or-low}
@@ -175,8 +172,8 @@ module _ (added : Restrictions) (image path : List ℕ) (h : Handle) (how : List
       }
 
 pub demand-3 : Demand3
-demand-3 added image path h how h′ how′ accepted good adds scope =
-    only-stops added image path h how h′ how′ adds scope (refusedBefore image h path how) refl
+demand-3 added image path h how h′ how′ a =
+    only-stops added image path h how h′ how′ (a .adds) (a .scope) (refusedBefore image h path how) refl
 
 found-not-refused : (r : Reached) (e : Errno) (p : Progress) → Found r ≡ refused e p → ⊥
 found-not-refused r e p h = let z : _≡_ {A = ℕ} 0 1 = cc in omega arith
@@ -184,16 +181,13 @@ found-not-refused r e p h = let z : _≡_ {A = ℕ} 0 1 = cc in omega arith
 -- "So a further restriction never turns one place into another.": a place found with restrictions added is found without them too,
 -- with the same counts
 pub never-elsewhere : (added : Restrictions) (image path : List ℕ) (h : Handle) (how : List ℕ) (h′ : Handle) (how′ : List ℕ)
-    → tableCheck image ≡ Accepted
-    → handleRefused (treeOf image) h ≡ none
-    → Adds added h how h′ how′
-    → (24 ≤ length how → added beneath ≡ true → has IN-ROOT (resolveOf how) ≡ false)
+    → Added added image h how h′ how′
     → (r : Reached) → resolve image h′ path how′ ≡ Found r → resolve image h path how ≡ Found r
-never-elsewhere added image path h how h′ how′ accepted good adds scope r found =
+never-elsewhere added image path h how h′ how′ a r found =
     go (firstForbidden added (eventsOf image h path how)) refl
   where
     only : OnlyStops added image path h how h′ how′
-    only = demand-3 added image path h how h′ how′ accepted good adds scope
+    only = demand-3 added image path h how h′ how′ a
 
     go : (o : Option Meeting) → firstForbidden added (eventsOf image h path how) ≡ o → resolve image h path how ≡ Found r
     go none e = sym (only .same e) ∙ found

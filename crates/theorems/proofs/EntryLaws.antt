@@ -1,17 +1,17 @@
 -- Laws of entries and the directories that hold them: over nodes that keep rule 4 each entry is in one directory. Assumes nothing.
-use Prim.Native.Nat.{ℕ, zero, suc, _+_, _-_, _≤_, _<_}
-use mathlib.Core.Bool.{Bool, true, false, cond, _&&_, _||_, and-false, true≢false}
-use mathlib.Core.Logic.{_⊎_, inl, inr, ⊎-elim}
+use Prim.Native.Nat.{ℕ, suc, _+_, _-_, _≤_, _<_}
+use mathlib.Core.Bool.{Bool, true, false, _&&_, _||_, and-false, true≢false}
+use mathlib.Core.Logic.{⊎-elim}
 use mathlib.Core.Path.{_≡_, refl, sym, ap, _∙_, subst}
 use native.Mathlib.Nat.{eq-or-lt-of-le}
 use native.Mathlib.Omega.{arith}
-use borrow.Author.Tests.{ltb-true, leb-true, lt-ltb, le-leb, lt-leb, le-ltb, eqb-true, eqb-false, eq-eqb, ne-eqb}
+use borrow.Author.Tests.{ltb-true, leb-true, lt-ltb, le-leb, eqb-true, eqb-false, eq-eqb, ne-eqb}
 use lib.Dec.{eqb, ltb, leb}
 use Rattle.model.specs.Bytes.{before, find, isSome}
 use Rattle.model.specs.Tree.{Tree, isDirectory, isLink, holds}
-use Rattle.model.specs.TableCheck.{countsBefore, directoryCount, nodeHolds, follows, ascends, standsInParent}
+use Rattle.model.specs.TableCheck.{nodeHolds, follows, ascends, standsInParent}
 use Rattle.theorems.specs.Acceptance.{NodesHold}
-use Rattle.theorems.proofs.Acceptance.{directory-below, directory-kind, first-sum, counts-grow, counts-next, entries-inside}
+use Rattle.theorems.proofs.Acceptance.{directory-below, directory-kind, first-sum, counts-grow, counts-next}
 use Rattle.theorems.proofs.ByteLaws.{find-exists, find-absent}
 use Rattle.theorems.proofs.Cases.{both, below-or}
 

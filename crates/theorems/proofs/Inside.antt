@@ -1,15 +1,15 @@
 -- Over a sound tree every place that a walk comes to is a mount and a node of the tree. Assumes nothing.
-use Prim.Native.Nat.{ℕ, zero, suc, _≤_, _<_}
-use mathlib.Core.Bool.{Bool, true, false, cond, not, _&&_, _||_}
-use mathlib.Core.List.{List, [], _∷_}
+use Prim.Native.Nat.{ℕ, _<_}
+use mathlib.Core.Bool.{Bool, true, false, not, _&&_, _||_}
+use mathlib.Core.List.{List}
 use mathlib.Core.Option.{Option, none, some}
-use mathlib.Core.Path.{_≡_, refl, sym, ap, _∙_, subst}
+use mathlib.Core.Path.{_≡_, refl}
 use lib.Dec.{eqb, ltb}
 use lib.ListN.{length}
-use borrow.Author.Tests.{eqb-true, eqb-false}
+use borrow.Author.Tests.{eqb-true}
 use Rattle.model.specs.Bytes.{sameBytes, ascii}
 use Rattle.model.specs.Tree.{Tree, isDirectory, isLink, lookup, mountOn}
-use Rattle.model.specs.Walk.{Request, placeAt, samePlace, rootOf, pointOf, Move, stayAt, after, afterIf, enterBy, enter, toParent, climb, atTop, goUp, Landing, outside, target, reading, Step, fail, go, follow, magicLink, symbolicLink, followLink, along, stepTo, stepBy, byName, oneComponent}
+use Rattle.model.specs.Walk.{Request, placeAt, samePlace, rootOf, pointOf, Move, afterIf, enterBy, enter, toParent, climb, atTop, goUp, Landing, outside, target, reading, Step, fail, go, follow, magicLink, symbolicLink, followLink, stepTo, stepBy, byName, oneComponent}
 use Rattle.model.specs.Path.{absolute}
 use Rattle.model.specs.Trace.{Event, Escape}
 use Rattle.model.specs.declared.Place.{Place}

@@ -3,10 +3,7 @@
 use mathlib.Core.Bool.{Bool, true, false, cond, _||_}
 use mathlib.Core.List.{List, [], _∷_}
 use mathlib.Core.Option.{Option, none, some, Option·getD}
-use mathlib.Core.Path.{_≡_, refl, sym, ap, _∙_, subst}
-use native.Mathlib.Omega.{arith}
-use Prim.Native.Nat.{ℕ}
-use Rattle.model.specs.Bytes.{isSome}
+use mathlib.Core.Path.{_≡_, refl, sym, ap, _∙_}
 use Rattle.model.specs.Answers.{refused}
 use Rattle.model.specs.Trace.{Event, Restriction, Restrictions, Trace, stop, meet, stand, Entry, row, firstSet, forbids, refusedBy, answer}
 use Rattle.theorems.specs.Adding.{Meeting, onward, meetings, firstForbidden}

@@ -1,5 +1,5 @@
 -- Laws of byte strings, one byte at a time from a position on. Assumes nothing.
-use Prim.Native.Nat.{ℕ, zero, suc, _+_, _-_, _*_, _^_, _≤_, _<_}
+use Prim.Native.Nat.{ℕ, suc, _+_, _-_, _*_, _^_, _≤_, _<_}
 use mathlib.Core.Bool.{Bool, true, false, _&&_, _||_, or-true, or-false, and-false, false≢true}
 use mathlib.Core.List.{List, [], _∷_}
 use mathlib.Core.Path.{_≡_, refl, sym, ap, ap₂, _∙_}
@@ -12,7 +12,8 @@ use lib.Seq.{drop-cons}
 use Rattle.model.specs.Bytes.{part, contains, sameBytes, before}
 use Rattle.theorems.proofs.Cases.{both}
 
-next : (s : List ℕ) (i : ℕ) → i < length s → drop i s ≡ getD s i 0 ∷ drop (i + 1) s
+-- a list from a position on, by the byte there
+pub next : (s : List ℕ) (i : ℕ) → i < length s → drop i s ≡ getD s i 0 ∷ drop (i + 1) s
 next s i h = rw (add-one, drop-cons s i 0)
 
 pub contains-next : (b : ℕ) (s : List ℕ) (i : ℕ) → i < length s → contains b (drop i s) ≡ eqb (getD s i 0) b || contains b (drop (i + 1) s)

@@ -87,11 +87,14 @@ pub record OnlyStops (added : Restrictions) (image path : List ℕ) (h : Handle)
 -- "Take any accepted table, any good handle, any path and any open_how, whatever restrictions are already set and with IN_ROOT on
 -- or off. Add any of NO_XDEV, NO_MAGICLINKS, NO_SYMLINKS, the below mark and, with IN_ROOT off, BENEATH, and keep all else alike."
 -- "A handle is good if none of the handle checks would refuse it."
+pub record Added (added : Restrictions) (image : List ℕ) (h : Handle) (how : List ℕ) (h′ : Handle) (how′ : List ℕ) : Type 0 where
+  pub accepted : tableCheck image ≡ Accepted
+  pub good : handleRefused (treeOf image) h ≡ none
+  pub adds : Adds added h how h′ how′
+  pub scope : 24 ≤ length how → added beneath ≡ true → has IN-ROOT (resolveOf how) ≡ false
+
 abbrev pub Demand3 : Type 0
 Demand3 =
     (added : Restrictions) (image path : List ℕ) (h : Handle) (how : List ℕ) (h′ : Handle) (how′ : List ℕ)
-    → tableCheck image ≡ Accepted
-    → handleRefused (treeOf image) h ≡ none
-    → Adds added h how h′ how′
-    → (24 ≤ length how → added beneath ≡ true → has IN-ROOT (resolveOf how) ≡ false)
+    → Added added image h how h′ how′
     → OnlyStops added image path h how h′ how′

@@ -30,6 +30,9 @@
 //! where `--fault NAME` plants one of its faults.
 
 mod case;
+#[cfg(feature = "subject")]
+#[path = "../../../bindings/rust/src/declared.rs"]
+mod declared;
 mod draft;
 mod faulty;
 mod generate;

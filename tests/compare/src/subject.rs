@@ -47,28 +47,7 @@ pub use linked::Linked;
 #[cfg(feature = "subject")]
 mod linked {
     use super::{Handle, Lent, Subject};
-
-    extern "C" {
-        fn ventolaire_check(
-            image: *const u8,
-            image_len: usize,
-            out: *mut u64,
-            out_len: usize,
-        ) -> usize;
-        fn ventolaire_resolve(
-            image: *const u8,
-            image_len: usize,
-            mount: u64,
-            node: u64,
-            mark: bool,
-            path: *const u8,
-            path_len: usize,
-            how: *const u8,
-            how_len: usize,
-            out: *mut u64,
-            out_len: usize,
-        ) -> usize;
-    }
+    use crate::declared::{ventolaire_check, ventolaire_resolve};
 
     /// What stands in the output before a call, and must still stand behind
     /// the numbers written after it.

@@ -1,26 +1,28 @@
--- `open_how::check_scopes` meets its contract. Each test of the code is a bit's own test. Assumes nothing.
-use borrow.Author.Needs.{needs}
-use Prim.Native.Nat.{_/_, _%_}
+-- `open_how::check_scopes` meets its contract. Assumes nothing.
 use mathlib.Core.Bool.{and-false}
-use borrow.Author.Tests.{eq-eqb, ne-eqb}
-use Rattle.model.specs.Bytes.{has}
+use mathlib.Core.Path.{sym, _∙_}
+use borrow.Author.Tests.{not-true, not-false}
+use native.Mathlib.Omega.{arith}
 use Rattle.open_how.proofs.check_scopes.Statement.{statement}
 use Rattle.open_how.proofs.check_scopes.Tie as tie
 
+has-requires : tie.Need-has-requires
+has-requires c κs = omega arith
+
 returns : tie.Need-returns
-unfolding has
-returns c = rw (ne-eqb (c .before .args .resolve / 8 % 2) 1 (c .if1 .taken))
+returns c = rw (sym (c .before .has .ensures) ∙ not-true _ (c .if1 .taken))
+
+has-requires-2 : tie.Need-has-requires-2
+has-requires-2 c κs = omega arith
 
 returns-2 : tie.Need-returns-2
-unfolding has
-returns-2 c = rw (ne-eqb (c .before .before .args .resolve / 16 % 2) 1 (c .if2 .taken)) (rw (and-false _))
+returns-2 c = rw (sym (c .before .has2 .ensures) ∙ not-true _ (c .if2 .taken), and-false)
 
 refuse-requires : tie.Need-refuse-requires
-refuse-requires c κs = search needs
+refuse-requires c κs = tt
 
 returns-3 : tie.Need-returns-3
-unfolding has
-returns-3 c = rw (eq-eqb (c .before .before .before .args .resolve / 8 % 2) 1 (c .before .before .if1 .left), eq-eqb (c .before .before .before .args .resolve / 16 % 2) 1 (c .before .if2 .left)) (c .refuse .ensures)
+returns-3 c = rw (sym (c .before .before .before .before .has .ensures) ∙ not-false _ (c .before .before .before .if1 .left), sym (c .before .before .has2 .ensures) ∙ not-false _ (c .before .if2 .left)) (c .refuse .ensures)
 
 pub check-scopes-spec : {M : Type 1} → statement M
-check-scopes-spec = tie.close (tie.spec returns returns-2 refuse-requires returns-3)
+check-scopes-spec = tie.close (tie.spec has-requires returns has-requires-2 returns-2 refuse-requires returns-3)

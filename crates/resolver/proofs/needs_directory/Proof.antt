@@ -1,17 +1,18 @@
 -- `resolver::needs_directory` meets its contract. Assumes nothing.
 use borrow.Author.Needs.{needs}
 use mathlib.Core.Path.{_∙_, sym}
+use native.Mathlib.Omega.{arith}
 use Rattle.resolver.proofs.needs_directory.Statement.{statement}
 use Rattle.resolver.proofs.needs_directory.Tie as tie
 
-has-directory-requires : tie.Need-has-directory-requires
-has-directory-requires c κs = search needs
+has-requires : tie.Need-has-requires
+has-requires c κs = omega arith
 
 returns : tie.Need-returns
-returns c = rw (sym (c .before .has-directory .ensures) ∙ c .if1 .taken)
+returns c = rw (sym (c .before .has .ensures) ∙ c .if1 .taken)
 
 returns-2 : tie.Need-returns-2
-returns-2 c = rw (sym (c .before .has-directory .ensures) ∙ c .if1 .left)
+returns-2 c = rw (sym (c .before .has .ensures) ∙ c .if1 .left)
 
 pub needs-directory-spec : {M : Type 1} → statement M
-needs-directory-spec = tie.close (tie.spec has-directory-requires returns returns-2)
+needs-directory-spec = tie.close (tie.spec has-requires returns returns-2)

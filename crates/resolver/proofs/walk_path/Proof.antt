@@ -2,6 +2,7 @@
 use borrow.Author.Needs.{needs}
 use mathlib.Core.Path.{_∙_, sym}
 use borrow.Author.Tests.{not-true, not-false}
+use native.Mathlib.Omega.{arith}
 use Rattle.model.specs.Trace.{answer, forbids, row, firstSet}
 use Rattle.model.specs.Walk.{walkPath}
 use Rattle.resolver.proofs.walk_path.Statement.{statement}
@@ -24,22 +25,22 @@ returns-2 : tie.Need-returns-2
 unfolding walkPath answer forbids row firstSet
 returns-2 c = c .refuse .ensures ∙ rw (sym (c .before .before .before .is-absolute .ensures) ∙ not-false _ (c .before .before .if1 .left), c .before .if2 .taken)
 
-beneath-requires : tie.Need-beneath-requires
-beneath-requires c κs = search needs
+has-requires : tie.Need-has-requires
+has-requires c κs = omega arith
 
 refuse-requires-2 : tie.Need-refuse-requires-2
 refuse-requires-2 c κs = search needs
 
 returns-3 : tie.Need-returns-3
 unfolding walkPath answer forbids row firstSet
-returns-3 c = c .refuse2 .ensures ∙ rw (sym (c .before .before .before .before .before .is-absolute .ensures) ∙ not-false _ (c .before .before .before .before .if1 .left), c .before .before .before .if2 .left, sym (c .before .before .beneath .ensures) ∙ c .before .if3 .taken)
+returns-3 c = c .refuse2 .ensures ∙ rw (sym (c .before .before .before .before .before .is-absolute .ensures) ∙ not-false _ (c .before .before .before .before .if1 .left), c .before .before .before .if2 .left, sym (c .before .before .has .ensures) ∙ c .before .if3 .taken)
 
 begin-requires-2 : tie.Need-begin-requires-2
 begin-requires-2 c κs = search needs
 
 returns-4 : tie.Need-returns-4
 unfolding walkPath answer forbids row firstSet
-returns-4 c = c .begin2 .ensures ∙ rw (sym (c .before .before .before .before .before .before .is-absolute .ensures) ∙ not-false _ (c .before .before .before .before .before .if1 .left), c .before .before .before .before .if2 .left, sym (c .before .before .before .beneath .ensures) ∙ c .before .before .if3 .left)
+returns-4 c = c .begin2 .ensures ∙ rw (sym (c .before .before .before .before .before .before .is-absolute .ensures) ∙ not-false _ (c .before .before .before .before .before .if1 .left), c .before .before .before .before .if2 .left, sym (c .before .before .before .has .ensures) ∙ c .before .before .if3 .left)
 
 pub walk-path-spec : {M : Type 1} → statement M
 walk-path-spec =
@@ -50,7 +51,7 @@ walk-path-spec =
     returns
     refuse-requires
     returns-2
-    beneath-requires
+    has-requires
     refuse-requires-2
     returns-3
     begin-requires-2

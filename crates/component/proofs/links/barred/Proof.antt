@@ -2,17 +2,18 @@
 use borrow.Author.Needs.{needs}
 use mathlib.Core.Path.{_∙_}
 use borrow.Author.Tests.{eq-eqb, ne-eqb}
+use native.Mathlib.Omega.{arith}
 use Rattle.component.proofs.links.barred.Statement.{statement}
 use Rattle.component.proofs.links.barred.Tie as tie
 
 returns : tie.Need-returns
 returns c = rw (eq-eqb (c .before .args .m) (c .before .args .n) (c .if1 .taken))
 
-no-xdev-requires : tie.Need-no-xdev-requires
-no-xdev-requires c κs = search needs
+has-requires : tie.Need-has-requires
+has-requires c κs = omega arith
 
 returns-2 : tie.Need-returns-2
-returns-2 c = c .no-xdev .ensures ∙ rw (ne-eqb (c .before .before .args .m) (c .before .before .args .n) (c .before .if1 .left))
+returns-2 c = c .has .ensures ∙ rw (ne-eqb (c .before .before .args .m) (c .before .before .args .n) (c .before .if1 .left))
 
 pub barred-spec : {M : Type 1} → statement M
-barred-spec = tie.close (tie.spec returns no-xdev-requires returns-2)
+barred-spec = tie.close (tie.spec returns has-requires returns-2)

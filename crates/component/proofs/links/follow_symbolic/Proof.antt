@@ -5,6 +5,7 @@ use mathlib.Core.Path.{_≡_, ap, _∙_, sym}
 use borrow.Author.Tests.{not-true, not-false}
 use lib.Dec.{eqb}
 use denote.Ref.{now}
+use native.Mathlib.Omega.{arith}
 use Rattle.model.specs.Tree.{treeOf}
 use Rattle.model.specs.Path.{absolute}
 use Rattle.model.specs.Walk.{symbolicLink}
@@ -15,8 +16,8 @@ use Rattle.component.specs.Outcomes.{requestFor, restrictionsFor, forbid
 use Rattle.component.proofs.links.follow_symbolic.Statement.{statement}
 use Rattle.component.proofs.links.follow_symbolic.Tie as tie
 
-no-symlinks-requires : tie.Need-no-symlinks-requires
-no-symlinks-requires c κs = search needs
+has-requires : tie.Need-has-requires
+has-requires c κs = omega arith
 
 returns : tie.Need-returns
 returns c =
@@ -24,7 +25,7 @@ returns c =
     let k = c .before .before .before .args .k in
     let R = restrictionsFor k in
     let b = not (eqb (c .before .before .before .args .p .mount) (k .root .mount)) in
-    sym (barred-link R 0 (requestFor (now (c .before .before .before .args .image)) k) (c .before .before .before .args .p) (c .before .before .before .args .n) (sym (c .before .no-symlinks .ensures) ∙ c .if1 .taken))
+    sym (barred-link R 0 (requestFor (now (c .before .before .before .args .image)) k) (c .before .before .before .args .p) (c .before .before .before .args .n) (sym (c .before .has .ensures) ∙ c .if1 .taken))
 
 body-requires : tie.Need-body-requires
 body-requires c κs = let sound = accepted-sound (now (c .before .before .before .args .image)) (c .before .before .before .pre .0 .reading .accepted) in (c .before .before .before .pre .0 .reading .counted, c .before .before .before .pre .1, symlink-facts (treeOf (now (c .before .before .before .args .image))) (sound .nodes-hold) (c .before .before .before .args .n) (c .before .before .before .pre .1) (c .before .before .before .pre .2) .0)
@@ -40,7 +41,7 @@ returns-2 c =
     let R = restrictionsFor k in
     let b = not (eqb (c .before .before .before .before .before .before .args .p .mount) (k .root .mount)) in
     let ab : absolute (t .body (c .before .before .before .before .before .before .args .n)) ≡ false = ap absolute (sym (c .before .before .body .ensures)) ∙ sym (c .before .is-absolute .ensures) ∙ not-true _ (c .if2 .taken) in
-    rw (ab, link-row R, sym (c .before .before .before .before .no-symlinks .ensures) ∙ c .before .before .before .if1 .left)
+    rw (ab, link-row R, sym (c .before .before .before .before .has .ensures) ∙ c .before .before .before .if1 .left)
 
 returns-3 : tie.Need-returns-3
 unfolding symbolicLink forbidAny
@@ -50,10 +51,10 @@ returns-3 c =
     let R = restrictionsFor k in
     let b = not (eqb (c .before .before .before .before .before .before .before .args .p .mount) (k .root .mount)) in
     let ab : absolute (t .body (c .before .before .before .before .before .before .before .args .n)) ≡ true = ap absolute (sym (c .before .before .before .body .ensures)) ∙ sym (c .before .before .is-absolute .ensures) ∙ not-false _ (c .before .if2 .left) in
-    rw (ab, link-row R, jump-row R b, sym (c .before .before .before .before .before .no-symlinks .ensures) ∙ c .before .before .before .before .if1 .left, c .if3 .taken)
+    rw (ab, link-row R, jump-row R b, sym (c .before .before .before .before .before .has .ensures) ∙ c .before .before .before .before .if1 .left, c .if3 .taken)
 
-beneath-requires : tie.Need-beneath-requires
-beneath-requires c κs = search needs
+has-requires-2 : tie.Need-has-requires-2
+has-requires-2 c κs = omega arith
 
 returns-4 : tie.Need-returns-4
 unfolding symbolicLink forbidAny
@@ -63,7 +64,7 @@ returns-4 c =
     let R = restrictionsFor k in
     let b = not (eqb (c .before .before .before .before .before .before .before .before .before .args .p .mount) (k .root .mount)) in
     let ab : absolute (t .body (c .before .before .before .before .before .before .before .before .before .args .n)) ≡ true = ap absolute (sym (c .before .before .before .before .before .body .ensures)) ∙ sym (c .before .before .before .before .is-absolute .ensures) ∙ not-false _ (c .before .before .before .if2 .left) in
-    rw (ab, link-row R, jump-row R b, sym (c .before .before .before .before .before .before .before .no-symlinks .ensures) ∙ c .before .before .before .before .before .before .if1 .left, c .before .before .if3 .left, sym (c .before .beneath .ensures) ∙ c .if4 .taken)
+    rw (ab, link-row R, jump-row R b, sym (c .before .before .before .before .before .before .before .has .ensures) ∙ c .before .before .before .before .before .before .if1 .left, c .before .before .if3 .left, sym (c .before .has2 .ensures) ∙ c .if4 .taken)
 
 barred-requires : tie.Need-barred-requires
 barred-requires c κs = search needs
@@ -76,7 +77,7 @@ returns-5 c =
     let R = restrictionsFor k in
     let b = not (eqb (c .before .before .before .before .before .before .before .before .before .before .before .before .args .p .mount) (k .root .mount)) in
     let ab : absolute (t .body (c .before .before .before .before .before .before .before .before .before .before .before .before .args .n)) ≡ true = ap absolute (sym (c .before .before .before .before .before .before .before .before .body .ensures)) ∙ sym (c .before .before .before .before .before .before .before .is-absolute .ensures) ∙ not-false _ (c .before .before .before .before .before .before .if2 .left) in
-    rw (ab, link-row R, jump-row R b, sym (c .before .before .before .before .before .before .before .before .before .before .no-symlinks .ensures) ∙ c .before .before .before .before .before .before .before .before .before .if1 .left, c .before .before .before .before .before .if3 .left, sym (c .before .before .before .before .beneath .ensures) ∙ c .before .before .before .if4 .left, sym (c .before .barred .ensures) ∙ c .if5 .taken)
+    rw (ab, link-row R, jump-row R b, sym (c .before .before .before .before .before .before .before .before .before .before .has .ensures) ∙ c .before .before .before .before .before .before .before .before .before .if1 .left, c .before .before .before .before .before .if3 .left, sym (c .before .before .before .before .has2 .ensures) ∙ c .before .before .before .if4 .left, sym (c .before .barred .ensures) ∙ c .if5 .taken)
 
 returns-6 : tie.Need-returns-6
 unfolding symbolicLink forbidAny
@@ -86,19 +87,19 @@ returns-6 c =
     let R = restrictionsFor k in
     let b = not (eqb (c .before .before .before .before .before .before .before .before .before .before .before .before .args .p .mount) (k .root .mount)) in
     let ab : absolute (t .body (c .before .before .before .before .before .before .before .before .before .before .before .before .args .n)) ≡ true = ap absolute (sym (c .before .before .before .before .before .before .before .before .body .ensures)) ∙ sym (c .before .before .before .before .before .before .before .is-absolute .ensures) ∙ not-false _ (c .before .before .before .before .before .before .if2 .left) in
-    rw (ab, link-row R, jump-row R b, sym (c .before .before .before .before .before .before .before .before .before .before .no-symlinks .ensures) ∙ c .before .before .before .before .before .before .before .before .before .if1 .left, c .before .before .before .before .before .if3 .left, sym (c .before .before .before .before .beneath .ensures) ∙ c .before .before .before .if4 .left, sym (c .before .barred .ensures) ∙ c .if5 .left)
+    rw (ab, link-row R, jump-row R b, sym (c .before .before .before .before .before .before .before .before .before .before .has .ensures) ∙ c .before .before .before .before .before .before .before .before .before .if1 .left, c .before .before .before .before .before .if3 .left, sym (c .before .before .before .before .has2 .ensures) ∙ c .before .before .before .if4 .left, sym (c .before .barred .ensures) ∙ c .if5 .left)
 
 pub follow-symbolic-spec : {M : Type 1} → statement M
 follow-symbolic-spec =
     tie.close
     (tie.spec
-    no-symlinks-requires
+    has-requires
     returns
     body-requires
     is-absolute-requires
     returns-2
     returns-3
-    beneath-requires
+    has-requires-2
     returns-4
     barred-requires
     returns-5

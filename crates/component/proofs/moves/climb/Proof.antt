@@ -27,15 +27,15 @@ returns c =
     let p = c .before .before .before .before .before .args .p in
     c .to-parent .ensures ∙ rw (ne-eqb (p .node) (t .mountRoot (p .mount)) (λ e. c .before .if1 .taken (e ∙ sym (c .before .before .before .mount-root .ensures .0))))
 
-no-xdev-requires : tie.Need-no-xdev-requires
-no-xdev-requires c κs = search needs
+has-requires : tie.Need-has-requires
+has-requires c κs = omega arith
 
 returns-2 : tie.Need-returns-2
 unfolding climb forbidAny forbids row firstSet
 returns-2 c =
     let t = treeOf (now (c .before .before .before .before .before .before .args .image)) in
     let p = c .before .before .before .before .before .before .args .p in
-    rw (eq-eqb (p .node) (t .mountRoot (p .mount)) (c .before .before .if1 .left ∙ c .before .before .before .before .mount-root .ensures .0), sym (c .before .no-xdev .ensures) ∙ c .if2 .taken)
+    rw (eq-eqb (p .node) (t .mountRoot (p .mount)) (c .before .before .if1 .left ∙ c .before .before .before .before .mount-root .ensures .0), sym (c .before .has .ensures) ∙ c .if2 .taken)
 
 mount-parent-requires : tie.Need-mount-parent-requires
 mount-parent-requires c κs = search needs
@@ -59,7 +59,7 @@ returns-3 c =
     let p = c .before .before .before .before .before .before .before .before .before .args .p in
     let R = restrictionsBy (c .before .before .before .before .before .before .before .before .before .args .mark) (c .before .before .before .before .before .before .before .before .before .args .resolve) in
     c .to-parent2 .ensures ∙ ap₂ (λ (m n : ℕ). moveOutcome R (toParent t (placeAt m n))) (c .before .before .mount-parent .ensures .0) (c .before .mount-point .ensures .0)
-    ∙ rw (eq-eqb (p .node) (t .mountRoot (p .mount)) (c .before .before .before .before .before .if1 .left ∙ c .before .before .before .before .before .before .before .mount-root .ensures .0), sym (c .before .before .before .before .no-xdev .ensures) ∙ c .before .before .before .if2 .left)
+    ∙ rw (eq-eqb (p .node) (t .mountRoot (p .mount)) (c .before .before .before .before .before .if1 .left ∙ c .before .before .before .before .before .before .before .mount-root .ensures .0), sym (c .before .before .before .before .has .ensures) ∙ c .before .before .before .if2 .left)
 
 pub climb-spec : {M : Type 1} → statement M
 climb-spec =
@@ -68,7 +68,7 @@ climb-spec =
     mount-root-requires
     to-parent-requires
     returns
-    no-xdev-requires
+    has-requires
     returns-2
     mount-parent-requires
     mount-point-requires

@@ -3,6 +3,7 @@ use borrow.Author.Needs.{needs}
 use Prim.Native.Nat.{ℕ}
 use mathlib.Core.Path.{ap, _∙_, sym}
 use denote.Ref.{now}
+use native.Mathlib.Omega.{arith}
 use Rattle.model.specs.Tree.{treeOf, mountOn}
 use Rattle.model.specs.Trace.{forbids, row, firstSet}
 use Rattle.model.specs.Walk.{placeAt, rootOf, enter}
@@ -19,8 +20,8 @@ find-mount-requires c κs = search needs
 enum-known-found : tie.Need-enum-known-found
 enum-known-found c = search needs
 
-no-xdev-requires : tie.Need-no-xdev-requires
-no-xdev-requires c κs = search needs
+has-requires : tie.Need-has-requires
+has-requires c κs = omega arith
 
 returns : tie.Need-returns
 unfolding forbidAny forbids row firstSet enter
@@ -28,7 +29,7 @@ returns c =
     let t = treeOf (now (c .before .before .before .before .before .before .before .args .image)) in
     let p = c .before .before .before .before .before .before .before .args .p in
     let m = search-at (mountOn t p) (c .before .before .before .found .given .0 .0) (sym (c .before .before .before .before .before .find-mount .ensures) ∙ c .before .before .before .found .given .1) in
-    rw (m, sym (c .before .no-xdev .ensures) ∙ c .if1 .taken)
+    rw (m, sym (c .before .has .ensures) ∙ c .if1 .taken)
 
 mount-root-requires : tie.Need-mount-root-requires
 mount-root-requires c κs =
@@ -46,7 +47,7 @@ returns-2 c =
     let t = treeOf (now (c .before .before .before .before .before .before .before .before .args .image)) in
     let p = c .before .before .before .before .before .before .before .before .args .p in
     let m = search-at (mountOn t p) (c .before .before .before .before .found .given .0 .0) (sym (c .before .before .before .before .before .before .find-mount .ensures) ∙ c .before .before .before .before .found .given .1) in
-    rw (m, sym (c .before .before .no-xdev .ensures) ∙ c .before .if1 .left) (ap (λ (n : ℕ). Go (placeAt (c .before .before .before .before .found .given .0 .0) n)) (c .mount-root .ensures .0))
+    rw (m, sym (c .before .before .has .ensures) ∙ c .before .if1 .left) (ap (λ (n : ℕ). Go (placeAt (c .before .before .before .before .found .given .0 .0) n)) (c .mount-root .ensures .0))
 
 returns-3 : tie.Need-returns-3
 unfolding forbidAny enter
@@ -61,7 +62,7 @@ enter-spec =
     (tie.spec
     find-mount-requires
     enum-known-found
-    no-xdev-requires
+    has-requires
     returns
     mount-root-requires
     enum-told

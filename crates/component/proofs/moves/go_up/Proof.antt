@@ -2,6 +2,7 @@
 use borrow.Author.Needs.{needs}
 use mathlib.Core.Path.{_∙_, sym}
 use borrow.Author.Tests.{not-true, not-false}
+use native.Mathlib.Omega.{arith}
 use Rattle.model.specs.Trace.{forbids, row, firstSet}
 use Rattle.model.specs.Walk.{goUp}
 use Rattle.component.specs.Outcomes.{forbidAny}
@@ -22,19 +23,19 @@ returns-2 : tie.Need-returns-2
 unfolding goUp forbidAny forbids row firstSet
 returns-2 c = rw (sym (c .before .before .same-place .ensures) ∙ not-false _ (c .before .if1 .left), c .if2 .taken)
 
-beneath-requires : tie.Need-beneath-requires
-beneath-requires c κs = search needs
+has-requires : tie.Need-has-requires
+has-requires c κs = omega arith
 
 returns-3 : tie.Need-returns-3
 unfolding goUp forbidAny forbids row firstSet
-returns-3 c = rw (sym (c .before .before .before .before .same-place .ensures) ∙ not-false _ (c .before .before .before .if1 .left), c .before .before .if2 .left, sym (c .before .beneath .ensures) ∙ c .if3 .taken)
+returns-3 c = rw (sym (c .before .before .before .before .same-place .ensures) ∙ not-false _ (c .before .before .before .if1 .left), c .before .before .if2 .left, sym (c .before .has .ensures) ∙ c .if3 .taken)
 
 up-from-requires-2 : tie.Need-up-from-requires-2
 up-from-requires-2 c κs = search needs
 
 returns-4 : tie.Need-returns-4
 unfolding goUp forbidAny forbids row firstSet
-returns-4 c = c .up-from2 .ensures ∙ rw (sym (c .before .before .before .before .before .same-place .ensures) ∙ not-false _ (c .before .before .before .before .if1 .left), c .before .before .before .if2 .left, sym (c .before .before .beneath .ensures) ∙ c .before .if3 .left)
+returns-4 c = c .up-from2 .ensures ∙ rw (sym (c .before .before .before .before .before .same-place .ensures) ∙ not-false _ (c .before .before .before .before .if1 .left), c .before .before .before .if2 .left, sym (c .before .before .has .ensures) ∙ c .before .if3 .left)
 
 pub go-up-spec : {M : Type 1} → statement M
 go-up-spec =
@@ -44,7 +45,7 @@ go-up-spec =
     up-from-requires
     returns
     returns-2
-    beneath-requires
+    has-requires
     returns-3
     up-from-requires-2
     returns-4)

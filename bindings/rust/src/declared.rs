@@ -1,0 +1,43 @@
+//! The library's functions as `include/ventolaire.h` declares them, for every
+//! Rust program here: `bench` and `tests/compare` take this file by its path.
+#![allow(dead_code)] // no program calls all of them
+
+extern "C" {
+    pub fn ventolaire_check(
+        image: *const u8,
+        image_len: usize,
+        out: *mut u64,
+        out_len: usize,
+    ) -> usize;
+
+    pub fn ventolaire_resolve(
+        image: *const u8,
+        image_len: usize,
+        mount: u64,
+        node: u64,
+        mark: bool,
+        path: *const u8,
+        path_len: usize,
+        how: *const u8,
+        how_len: usize,
+        out: *mut u64,
+        out_len: usize,
+    ) -> usize;
+
+    pub fn ventolaire_resolve_times(
+        image: *const u8,
+        image_len: usize,
+        mount: u64,
+        node: u64,
+        mark: bool,
+        path: *const u8,
+        path_len: usize,
+        how: *const u8,
+        how_len: usize,
+        times: usize,
+        out: *mut u64,
+        out_len: usize,
+    ) -> usize;
+
+    pub fn ventolaire_errnos(out: *mut u64, out_len: usize) -> usize;
+}
