@@ -8,25 +8,24 @@ use image::texts::body;
 use model::Answer;
 use model::Errno;
 use model::Place;
-use model::Progress;
-use model::Reached;
-use model::Refusal;
 use model::State;
 use reader::next_component;
+use state::finish;
+use state::followed_to;
+use state::refuse;
+use state::standing_on;
+use state::taken;
 use text::ends_in_slash;
 use text::name_of;
 use text::skip_slashes;
 use text::text_of;
-ghost use mathlib.Core.Bool.{_&&_, _||_};
+ghost use mathlib.Core.Bool.{_&&_};
 ghost use mathlib.Core.Path.{_≡_};
 ghost use lib.Dec.{eqb};
 ghost use Prim.Native.Nat.{ℕ, _≤_, _<_};
 ghost use lib.ListN.{length};
 ghost use Rattle.model.specs.Tree.{treeOf};
-ghost use Rattle.model.specs.Answers.{refused};
-ghost use Rattle.model.specs.Walk.{taken, standingOn, followedTo, finish, isEmpty};
-ghost use Rattle.theorems.proofs.Inside.{Inside};
-ghost use Rattle.component.specs.Outcomes.{requestFor};
+ghost use Rattle.model.specs.Walk.{isEmpty};
 ghost use Rattle.component.specs.Walking.{Walking};
 ghost use Rattle.image.specs.Counts.{Counted};
 ghost use Rattle.walk.specs.Open.{pending, rest, budget, Resting, Standing, Leads, Advanced, OutcomeInside, proceed, Entered, Stepped};
@@ -45,39 +44,6 @@ pub enum Next {
     More(Walk),
     Done(Walk),
     Failed(Walk, Errno),
-}
-
-pub fn refuse(errno: Errno, progress: Progress) -> Answer
-    ensures { λ r. ⌜ r ≡ refused errno progress ⌝ }
-{
-    Answer::Refused(Refusal {
-        errno,
-        detail: 255,
-        progress,
-    })
-}
-
-// The end: a directory where one is required, and no link without O_PATH.
-pub fn finish(image: &[u8], c: Counts, k: Ask, s: State) -> Answer
-    requires { ⌜ Walking (now image) c k × Inside (treeOf (now image)) (s .place) ⌝ }
-    ensures { λ r. ⌜ r ≡ finish (requestFor (now (image .entry)) k) s ⌝ }
-{
-    let place = s.place;
-    let progress = s.progress;
-    let kind = node_kind(image, place.node);
-    if kind == 1 {
-        return Answer::Found(Reached { place, progress });
-    }
-    if s.directory {
-        return refuse(Errno::Enotdir, progress);
-    }
-    if kind == 2 {
-        return Answer::Found(Reached { place, progress });
-    }
-    if k.opath {
-        return Answer::Found(Reached { place, progress });
-    }
-    refuse(Errno::Eloop, progress)
 }
 
 // After a component: on in the same text, back in the one suspended last, or at the end. A suspended text has a component left, so
@@ -104,42 +70,6 @@ fn advance<'a>(image: &'a [u8], c: Counts, path: &'a [u8], stack: &[u32], w: Wal
     })
 }
 
-fn taken(s: State) -> State
-    requires { ⌜ s .progress .components < 83968 ⌝ }
-    ensures { λ r. ⌜ r ≡ taken s ⌝ }
-{
-    let place = s.place;
-    let progress = s.progress;
-    State {
-        place,
-        progress: Progress {
-            components: progress.components + 1,
-            links: progress.links,
-        },
-        directory: s.directory,
-    }
-}
-
-fn standing_on(p: Place, s: State) -> State
-    ensures { λ r. ⌜ r ≡ standingOn p s ⌝ }
-{
-    let progress = s.progress;
-    State {
-        place: p,
-        progress,
-        directory: s.directory,
-    }
-}
-
-fn either(a: bool, b: bool) -> bool
-    ensures { λ r. ⌜ r ≡ a || b ⌝ }
-{
-    if a {
-        return true;
-    }
-    b
-}
-
 fn both(a: bool, b: bool) -> bool
     ensures { λ r. ⌜ r ≡ a && b ⌝ }
 {
@@ -147,22 +77,6 @@ fn both(a: bool, b: bool) -> bool
         return b;
     }
     false
-}
-
-fn followed_to(p: Place, slash: bool, s: State) -> State
-    requires { ⌜ s .progress .links < 40 ⌝ }
-    ensures { λ r. ⌜ r ≡ followedTo p slash s ⌝ }
-{
-    let progress = s.progress;
-    let directory = either(s.directory, slash);
-    State {
-        place: p,
-        progress: Progress {
-            components: progress.components,
-            links: progress.links + 1,
-        },
-        directory,
-    }
 }
 
 // Starts on the body of a link, at its first component; what is left of the present text is suspended, if anything is.

@@ -1,7 +1,7 @@
--- `walk::followed_to` meets its contract. Assumes nothing.
+-- `state::followed_to` meets its contract. Assumes nothing.
 use borrow.Author.Needs.{needs}
-use Rattle.walk.proofs.followed_to.Statement.{statement}
-use Rattle.walk.proofs.followed_to.Tie as tie
+use Rattle.state.proofs.followed_to.Statement.{statement}
+use Rattle.state.proofs.followed_to.Tie as tie
 
 either-requires : tie.Need-either-requires
 either-requires c κs = tt

@@ -1,8 +1,8 @@
--- `walk::taken` meets its contract. Assumes nothing.
+-- `state::taken` meets its contract. Assumes nothing.
 use mathlib.Core.Path.{refl}
 use native.Mathlib.Omega.{arith}
-use Rattle.walk.proofs.taken.Statement.{statement}
-use Rattle.walk.proofs.taken.Tie as tie
+use Rattle.state.proofs.taken.Statement.{statement}
+use Rattle.state.proofs.taken.Tie as tie
 
 add-t4 : tie.Need-add-t4
 add-t4 c = omega (arith, c .before .before .before .pre)

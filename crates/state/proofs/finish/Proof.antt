@@ -1,4 +1,4 @@
--- `walk::finish` meets its contract. Assumes nothing.
+-- `state::finish` meets its contract. Assumes nothing.
 use mathlib.Core.Bool.{and-false}
 use mathlib.Core.Path.{_≡_, _∙_, sym}
 use denote.Ref.{now}
@@ -6,8 +6,8 @@ use Rattle.model.specs.Tree.{treeOf, isLink}
 use Rattle.model.specs.Walk.{finish}
 use Rattle.theorems.proofs.Acceptance.{accepted-sound}
 use Rattle.theorems.proofs.EntryLaws.{is-directory, not-directory, link-kind}
-use Rattle.walk.proofs.finish.Statement.{statement}
-use Rattle.walk.proofs.finish.Tie as tie
+use Rattle.state.proofs.finish.Statement.{statement}
+use Rattle.state.proofs.finish.Tie as tie
 
 node-kind-requires : tie.Need-node-kind-requires
 node-kind-requires c κs = (c .before .before .before .pre .0 .reading .counted .sized, c .before .before .before .pre .1 .node-below)

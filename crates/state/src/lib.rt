@@ -1,0 +1,107 @@
+// What becomes of a walk's state: a component taken, a place stood on, a link followed, a refusal, and the end.
+use component::Ask;
+use image::records::Counts;
+use image::records::node_kind;
+use model::Answer;
+use model::Errno;
+use model::Place;
+use model::Progress;
+use model::Reached;
+use model::Refusal;
+use model::State;
+ghost use mathlib.Core.Bool.{_||_};
+ghost use mathlib.Core.Path.{_≡_};
+ghost use Prim.Native.Nat.{ℕ, _<_};
+ghost use Rattle.model.specs.Tree.{treeOf};
+ghost use Rattle.model.specs.Answers.{refused};
+ghost use Rattle.model.specs.Walk.{taken, standingOn, followedTo, finish};
+ghost use Rattle.theorems.proofs.Inside.{Inside};
+ghost use Rattle.component.specs.Outcomes.{requestFor};
+ghost use Rattle.component.specs.Walking.{Walking};
+
+pub fn refuse(errno: Errno, progress: Progress) -> Answer
+    ensures { λ r. ⌜ r ≡ refused errno progress ⌝ }
+{
+    Answer::Refused(Refusal {
+        errno,
+        detail: 255,
+        progress,
+    })
+}
+
+// The end: a directory where one is required, and no link without O_PATH.
+pub fn finish(image: &[u8], c: Counts, k: Ask, s: State) -> Answer
+    requires { ⌜ Walking (now image) c k × Inside (treeOf (now image)) (s .place) ⌝ }
+    ensures { λ r. ⌜ r ≡ finish (requestFor (now (image .entry)) k) s ⌝ }
+{
+    let place = s.place;
+    let progress = s.progress;
+    let kind = node_kind(image, place.node);
+    if kind == 1 {
+        return Answer::Found(Reached { place, progress });
+    }
+    if s.directory {
+        return refuse(Errno::Enotdir, progress);
+    }
+    if kind == 2 {
+        return Answer::Found(Reached { place, progress });
+    }
+    if k.opath {
+        return Answer::Found(Reached { place, progress });
+    }
+    refuse(Errno::Eloop, progress)
+}
+
+// "Taking it adds 1 to the components."
+pub fn taken(s: State) -> State
+    requires { ⌜ s .progress .components < 83968 ⌝ }
+    ensures { λ r. ⌜ r ≡ taken s ⌝ }
+{
+    let place = s.place;
+    let progress = s.progress;
+    State {
+        place,
+        progress: Progress {
+            components: progress.components + 1,
+            links: progress.links,
+        },
+        directory: s.directory,
+    }
+}
+
+pub fn standing_on(p: Place, s: State) -> State
+    ensures { λ r. ⌜ r ≡ standingOn p s ⌝ }
+{
+    let progress = s.progress;
+    State {
+        place: p,
+        progress,
+        directory: s.directory,
+    }
+}
+
+fn either(a: bool, b: bool) -> bool
+    ensures { λ r. ⌜ r ≡ a || b ⌝ }
+{
+    if a {
+        return true;
+    }
+    b
+}
+
+// "Only now does it count as followed"; a slash at the end of a followed last body requires a directory.
+pub fn followed_to(p: Place, slash: bool, s: State) -> State
+    requires { ⌜ s .progress .links < 40 ⌝ }
+    ensures { λ r. ⌜ r ≡ followedTo p slash s ⌝ }
+{
+    let progress = s.progress;
+    let directory = either(s.directory, slash);
+    State {
+        place: p,
+        progress: Progress {
+            components: progress.components,
+            links: progress.links + 1,
+        },
+        directory,
+    }
+}
