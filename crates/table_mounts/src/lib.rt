@@ -22,7 +22,7 @@ ghost use Rattle.table_mounts.specs.Points.{Noted};
 const NODES: usize = 4096;
 
 // So few mounts are searched sooner than the bytes are cleared.
-const FEW: usize = 16;
+const FEW: usize = 36;
 
 fn point_holds(image: &[u8], c: Counts, m: usize, parent: usize) -> bool
     requires { ⌜ Counted (now image) c × NodesHold (treeOf (now image)) × (m < treeOf (now image) .mounts) × (parent ≡ treeOf (now image) .mountParent m) × (parent < m) ⌝ }
