@@ -83,8 +83,9 @@ fn check_records(image: &[u8], c: Counts, text: usize) -> Verdict
     Verdict::Accepted
 }
 
+// The image stays as it was.
 pub fn check(image: &[u8]) -> Verdict
-    ensures { λ r. ⌜ r ≡ tableCheck (now (image .entry)) ⌝ }
+    ensures { λ r. ⌜ (r ≡ tableCheck (now (image .entry))) × (now (image .exit) ≡ now (image .entry)) ⌝ }
 {
     if image.len() < 20 {
         return Verdict::Broken { rule: 1, record: 0 };

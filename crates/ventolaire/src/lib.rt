@@ -1,5 +1,5 @@
 // The C interface: pointers with lengths and numbers in, the answer as numbers into a lent array. A lent array that is too short is
-// left as it was, and 0 is returned; else it is how many numbers were written.
+// left as it was, and 0 is returned; else it is how many numbers were written. All else that is lent stays as it was.
 use model::Answer;
 use model::Errno;
 use model::Handle;
@@ -100,7 +100,7 @@ fn put_answer(out: &mut [u64], a: Answer)
 // The table check: rule (0: accepted) and record.
 #[no_mangle]
 pub extern "C" fn ventolaire_check(image: &[u8], out: &mut [u64]) -> usize
-    ensures { λ r. ⌜ Writes (verdictNumbers (tableCheck (now (image .entry)))) (now (out .entry)) (now (out .exit)) r ⌝ }
+    ensures { λ r. ⌜ Writes (verdictNumbers (tableCheck (now (image .entry)))) (now (out .entry)) (now (out .exit)) r × (now (image .exit) ≡ now (image .entry)) ⌝ }
 {
     if out.len() < 2 {
         return 0;
@@ -120,7 +120,7 @@ pub extern "C" fn ventolaire_resolve<'a>(
     how: &[u8],
     out: &mut [u64],
 ) -> usize
-    ensures { λ r. ⌜ Writes (answerNumbers (resolve (now (image .entry)) (handleOf mount node mark) (now (path .entry)) (now (how .entry)))) (now (out .entry)) (now (out .exit)) r ⌝ }
+    ensures { λ r. ⌜ Writes (answerNumbers (resolve (now (image .entry)) (handleOf mount node mark) (now (path .entry)) (now (how .entry)))) (now (out .entry)) (now (out .exit)) r × (now (image .exit) ≡ now (image .entry)) × (now (path .exit) ≡ now (path .entry)) × (now (how .exit) ≡ now (how .entry)) ⌝ }
 {
     if out.len() < 6 {
         return 0;
@@ -158,7 +158,7 @@ pub extern "C" fn ventolaire_resolve_times<'a>(
     times: usize,
     out: &mut [u64],
 ) -> usize
-    ensures { λ r. ⌜ Writes (answerNumbers (resolve (now (image .entry)) (handleOf mount node mark) (now (path .entry)) (now (how .entry)))) (now (out .entry)) (now (out .exit)) r ⌝ }
+    ensures { λ r. ⌜ Writes (answerNumbers (resolve (now (image .entry)) (handleOf mount node mark) (now (path .entry)) (now (how .entry)))) (now (out .entry)) (now (out .exit)) r × (now (image .exit) ≡ now (image .entry)) × (now (path .exit) ≡ now (path .entry)) × (now (how .exit) ≡ now (how .entry)) ⌝ }
 {
     if out.len() < 6 {
         return 0;

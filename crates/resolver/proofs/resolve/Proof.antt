@@ -1,6 +1,6 @@
 -- `resolver::resolve` meets its contract. Assumes nothing.
 use borrow.Author.Needs.{needs}
-use mathlib.Core.Path.{_∙_, sym}
+use mathlib.Core.Path.{_∙_, sym, refl}
 use denote.Ref.{now}
 use Rattle.resolver.proofs.CallLaws.{broken-call}
 use Rattle.resolver.proofs.resolve.Statement.{statement}
@@ -13,7 +13,7 @@ enum-told : tie.Need-enum-told
 enum-told c = search needs
 
 resolve-accepted-requires : tie.Need-resolve-accepted-requires
-resolve-accepted-requires c κs = sym (c .before .before .check .ensures) ∙ c .enum-told .given .1
+resolve-accepted-requires c κs = sym (c .before .before .check .ensures .0) ∙ c .enum-told .given .1
 
 enum-told-2 : tie.Need-enum-told-2
 enum-told-2 c = search needs
@@ -22,10 +22,10 @@ refuse-requires : tie.Need-refuse-requires
 refuse-requires c κs = search needs
 
 returns : tie.Need-returns
-returns c = c .resolve-accepted .ensures
+returns c = (c .resolve-accepted .ensures .0, refl, refl, refl)
 
 returns-2 : tie.Need-returns-2
-returns-2 c = c .refuse .ensures ∙ broken-call (now (c .before .before .before .before .before .before .before .args .image)) (c .before .before .before .before .before .before .before .args .h) (now (c .before .before .before .before .before .before .before .args .path)) (now (c .before .before .before .before .before .before .before .args .how)) _ _ (sym (c .before .before .before .check .ensures) ∙ c .before .enum-told2 .given .1)
+returns-2 c = (c .refuse .ensures ∙ broken-call (now (c .before .before .before .before .before .before .before .args .image)) (c .before .before .before .before .before .before .before .args .h) (now (c .before .before .before .before .before .before .before .args .path)) (now (c .before .before .before .before .before .before .before .args .how)) _ _ (sym (c .before .before .before .check .ensures .0) ∙ c .before .enum-told2 .given .1), refl, refl, refl)
 
 pub resolve-spec : {M : Type 1} → statement M
 resolve-spec =

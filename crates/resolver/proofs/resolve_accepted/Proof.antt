@@ -1,6 +1,6 @@
 -- `resolver::resolve_accepted` meets its contract. Assumes nothing.
 use borrow.Author.Needs.{needs}
-use mathlib.Core.Path.{ap, _∙_, sym}
+use mathlib.Core.Path.{ap, _∙_, sym, refl}
 use native.Mathlib.Omega.{arith}
 use denote.Ref.{now}
 use Rattle.model.specs.Resolve.{refusedBefore}
@@ -66,7 +66,7 @@ returns c =
     let h = c .before .before .before .before .before .before .before .before .before .before .before .before .args .h in
     let r = c .before .before .before .before .before .before .before .before .read-counts .ensures in
     let b = walks-none (refusedBefore s h path how) (fieldsOf how) (c .before .before .before .before .before .read .given .0 .0) (sym (accepted-call s h path how (c .before .before .before .before .before .before .before .before .before .before .before .before .pre)) ∙ sym (c .before .before .before .before .before .before .before .check-call .ensures) ∙ c .before .before .before .before .before .read .given .1) in
-    c .walk-path .ensures ∙ walked s h path how (c .before .before .before .before .before .read .given .0 .0) (c .before .before .before .ends-in-slash .result) (c .before .before .ask .result) (c .before .needs-directory .result) (b .0) (b .1) (c .before .before .before .ends-in-slash .ensures) (c .before .before .ask .ensures) (c .before .needs-directory .ensures)
+    (c .walk-path .ensures ∙ walked s h path how (c .before .before .before .before .before .read .given .0 .0) (c .before .before .before .ends-in-slash .result) (c .before .before .ask .result) (c .before .needs-directory .result) (b .0) (b .1) (c .before .before .before .ends-in-slash .ensures) (c .before .before .ask .ensures) (c .before .needs-directory .ensures), refl, refl, refl)
 
 returns-2 : tie.Need-returns-2
 returns-2 c =
@@ -75,7 +75,7 @@ returns-2 c =
     let how = now (c .before .before .before .before .before .before .before .before .args .how) in
     let h = c .before .before .before .before .before .before .before .before .args .h in
     let r = c .before .before .before .before .read-counts .ensures in
-    refused-call s h path how (c .before .read2 .given .0 .0) (refused-some (refusedBefore s h path how) (fieldsOf how) (c .before .read2 .given .0 .0) (sym (accepted-call s h path how (c .before .before .before .before .before .before .before .before .pre)) ∙ sym (c .before .before .before .check-call .ensures) ∙ c .before .read2 .given .1))
+    (refused-call s h path how (c .before .read2 .given .0 .0) (refused-some (refusedBefore s h path how) (fieldsOf how) (c .before .read2 .given .0 .0) (sym (accepted-call s h path how (c .before .before .before .before .before .before .before .before .pre)) ∙ sym (c .before .before .before .check-call .ensures) ∙ c .before .read2 .given .1)), refl, refl, refl)
 
 pub resolve-accepted-spec : {M : Type 1} → statement M
 resolve-accepted-spec =

@@ -2,7 +2,7 @@
 use borrow.Author.Needs.{needs}
 use mathlib.Core.Bool.{and-false}
 use mathlib.Core.Option.{none}
-use mathlib.Core.Path.{_≡_, ap, _∙_, sym}
+use mathlib.Core.Path.{_≡_, ap, _∙_, sym, refl}
 use native.Mathlib.Omega.{arith}
 use borrow.Author.Tests.{le-leb, lt-leb, not-true, not-false}
 use lib.ListN.{length}
@@ -14,18 +14,18 @@ use Rattle.table.proofs.check.Tie as tie
 
 returns : tie.Need-returns
 unfolding tableCheck rule1
-returns c = rw (lt-leb 20 (length (now (c .before .before .args .image))) (omega arith))
+returns c = (rw (lt-leb 20 (length (now (c .before .before .args .image))) (omega arith)), refl)
 
 returns-2 : tie.Need-returns-2
 unfolding tableCheck rule1
-returns-2 c = simp (lt-leb (length (now (c .before .before .before .args .image))) 65536 (omega arith), and-false)
+returns-2 c = (simp (lt-leb (length (now (c .before .before .before .args .image))) 65536 (omega arith), and-false), refl)
 
 is-signed-requires : tie.Need-is-signed-requires
 is-signed-requires c κs = search needs
 
 returns-3 : tie.Need-returns-3
 unfolding tableCheck rule1 rule2
-returns-3 c = rw (le-leb 20 (length (now (c .before .before .before .before .before .args .image))) (omega arith), le-leb (length (now (c .before .before .before .before .before .args .image))) 65536 (omega arith), sym (c .before .is-signed .ensures) ∙ not-true _ (c .if3 .taken))
+returns-3 c = (rw (le-leb 20 (length (now (c .before .before .before .before .before .args .image))) (omega arith), le-leb (length (now (c .before .before .before .before .before .args .image))) 65536 (omega arith), sym (c .before .is-signed .ensures) ∙ not-true _ (c .if3 .taken)), refl)
 
 read-counts-requires : tie.Need-read-counts-requires
 read-counts-requires c κs = search needs
@@ -38,7 +38,7 @@ sizes-fit-requires c κs = (omega arith, c .before .read-counts .ensures, c .tex
 
 returns-4 : tie.Need-returns-4
 unfolding tableCheck rule1 rule2 rule3
-returns-4 c = rw (le-leb 20 (length (now (c .before .before .before .before .before .before .before .before .before .args .image))) (omega arith), le-leb (length (now (c .before .before .before .before .before .before .before .before .before .args .image))) 65536 (omega arith), sym (c .before .before .before .before .before .is-signed .ensures) ∙ not-false _ (c .before .before .before .before .if3 .left), sym (c .before .sizes-fit .ensures) ∙ not-true _ (c .if4 .taken))
+returns-4 c = (rw (le-leb 20 (length (now (c .before .before .before .before .before .before .before .before .before .args .image))) (omega arith), le-leb (length (now (c .before .before .before .before .before .before .before .before .before .args .image))) 65536 (omega arith), sym (c .before .before .before .before .before .is-signed .ensures) ∙ not-false _ (c .before .before .before .before .if3 .left), sym (c .before .sizes-fit .ensures) ∙ not-true _ (c .if4 .taken)), refl)
 
 check-records-requires : tie.Need-check-records-requires
 unfolding rule1 rule3
@@ -52,7 +52,7 @@ check-records-requires c κs =
 returns-5 : tie.Need-returns-5
 unfolding tableCheck rule1 rule2 rule3
 returns-5 c =
-    c .check-records .ensures ∙ rw (le-leb 20 (length (now (c .before .before .before .before .before .before .before .before .before .before .args .image))) (omega arith), le-leb (length (now (c .before .before .before .before .before .before .before .before .before .before .args .image))) 65536 (omega arith), sym (c .before .before .before .before .before .before .is-signed .ensures) ∙ not-false _ (c .before .before .before .before .before .if3 .left), sym (c .before .before .sizes-fit .ensures) ∙ not-false _ (c .before .if4 .left))
+    (c .check-records .ensures ∙ rw (le-leb 20 (length (now (c .before .before .before .before .before .before .before .before .before .before .args .image))) (omega arith), le-leb (length (now (c .before .before .before .before .before .before .before .before .before .before .args .image))) 65536 (omega arith), sym (c .before .before .before .before .before .before .is-signed .ensures) ∙ not-false _ (c .before .before .before .before .before .if3 .left), sym (c .before .before .sizes-fit .ensures) ∙ not-false _ (c .before .if4 .left)), refl)
 
 pub check-spec : {M : Type 1} → statement M
 check-spec =

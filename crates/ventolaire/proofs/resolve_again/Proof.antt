@@ -29,7 +29,7 @@ resolve-accepted-requires-2 : tie.Need-resolve-accepted-requires-2 Inv-loop μ-l
 resolve-accepted-requires-2 c κs = c .before .before .before .before .before .pre
 
 returns : tie.Need-returns Inv-loop μ-loop
-returns c = c .resolve-accepted2 .ensures
+returns c = c .resolve-accepted2 .ensures .0
 
 pub resolve-again-spec : {M : Type 1} → statement M
 resolve-again-spec =

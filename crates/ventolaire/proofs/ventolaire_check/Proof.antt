@@ -1,7 +1,7 @@
 -- `ventolaire::ventolaire_check` meets its contract. Assumes nothing.
 use borrow.Author.Needs.{needs}
 use mathlib.Core.List.{_++_}
-use mathlib.Core.Path.{ap, _∙_}
+use mathlib.Core.Path.{ap, _∙_, refl}
 use lib.ListN.{drop}
 use denote.Ref.{now}
 use Rattle.model.specs.Answers.{verdictNumbers}
@@ -11,7 +11,7 @@ use Rattle.ventolaire.proofs.ventolaire_check.Statement.{statement}
 use Rattle.ventolaire.proofs.ventolaire_check.Tie as tie
 
 returns : tie.Need-returns
-returns c = verdict-short (tableCheck (now (c .before .before .before .args .image))) (now (c .before .before .before .args .out)) (c .if1 .taken)
+returns c = (verdict-short (tableCheck (now (c .before .before .before .args .image))) (now (c .before .before .before .args .out)) (c .if1 .taken), refl)
 
 check-requires : tie.Need-check-requires
 check-requires c κs = search needs
@@ -25,7 +25,7 @@ same-length c = search needs
 returns-2 : tie.Need-returns-2
 returns-2 c =
     let n = tableCheck (now (c .before .before .before .before .before .before .before .before .args .image)) in
-    verdict-writes n (now (c .before .before .before .before .before .before .before .before .args .out)) (c .before .before .put-verdict .last .0) (c .before .before .before .before .before .if1 .left) (c .before .before .put-verdict .ensures ∙ ap (λ v. verdictNumbers v ++ drop 2 (now (c .before .before .before .before .before .before .before .before .args .out))) (c .before .before .before .check .ensures))
+    (verdict-writes n (now (c .before .before .before .before .before .before .before .before .args .out)) (c .before .before .put-verdict .last .0) (c .before .before .before .before .before .if1 .left) (c .before .before .put-verdict .ensures ∙ ap (λ v. verdictNumbers v ++ drop 2 (now (c .before .before .before .before .before .before .before .before .args .out))) (c .before .before .before .check .ensures .0)), refl)
 
 pub ventolaire-check-spec : {M : Type 1} → statement M
 ventolaire-check-spec =

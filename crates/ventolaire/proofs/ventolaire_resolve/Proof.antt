@@ -1,7 +1,7 @@
 -- `ventolaire::ventolaire_resolve` meets its contract. Assumes nothing.
 use borrow.Author.Needs.{needs}
 use mathlib.Core.List.{_++_}
-use mathlib.Core.Path.{ap, _∙_}
+use mathlib.Core.Path.{ap, _∙_, refl}
 use lib.ListN.{drop}
 use denote.Ref.{now}
 use Rattle.model.specs.Answers.{answerNumbers}
@@ -12,7 +12,7 @@ use Rattle.ventolaire.proofs.ventolaire_resolve.Statement.{statement}
 use Rattle.ventolaire.proofs.ventolaire_resolve.Tie as tie
 
 returns : tie.Need-returns
-returns c = answer-short (resolve (now (c .before .before .before .before .before .args .image)) (handleOf (c .before .before .before .before .before .args .mount) (c .before .before .before .before .before .args .node) (c .before .before .before .before .before .args .mark)) (now (c .before .before .before .before .before .args .path)) (now (c .before .before .before .before .before .args .how))) (now (c .before .before .before .before .before .args .out)) (c .if1 .taken)
+returns c = (answer-short (resolve (now (c .before .before .before .before .before .args .image)) (handleOf (c .before .before .before .before .before .args .mount) (c .before .before .before .before .before .args .node) (c .before .before .before .before .before .args .mark)) (now (c .before .before .before .before .before .args .path)) (now (c .before .before .before .before .before .args .how))) (now (c .before .before .before .before .before .args .out)) (c .if1 .taken), refl, refl, refl)
 
 resolve-requires : tie.Need-resolve-requires
 resolve-requires c κs = search needs
@@ -26,7 +26,7 @@ same-length c = search needs
 returns-2 : tie.Need-returns-2
 returns-2 c =
     let a = resolve (now (c .before .before .before .before .before .before .before .before .before .before .args .image)) (handleOf (c .before .before .before .before .before .before .before .before .before .before .args .mount) (c .before .before .before .before .before .before .before .before .before .before .args .node) (c .before .before .before .before .before .before .before .before .before .before .args .mark)) (now (c .before .before .before .before .before .before .before .before .before .before .args .path)) (now (c .before .before .before .before .before .before .before .before .before .before .args .how)) in
-    answer-writes a (now (c .before .before .before .before .before .before .before .before .before .before .args .out)) (c .before .before .put-answer .last .0) (c .before .before .before .before .before .if1 .left) (c .before .before .put-answer .ensures ∙ ap (λ x. answerNumbers x ++ drop 6 (now (c .before .before .before .before .before .before .before .before .before .before .args .out))) (c .before .before .before .resolve .ensures))
+    (answer-writes a (now (c .before .before .before .before .before .before .before .before .before .before .args .out)) (c .before .before .put-answer .last .0) (c .before .before .before .before .before .if1 .left) (c .before .before .put-answer .ensures ∙ ap (λ x. answerNumbers x ++ drop 6 (now (c .before .before .before .before .before .before .before .before .before .before .args .out))) (c .before .before .before .resolve .ensures .0)), refl, refl, refl)
 
 pub ventolaire-resolve-spec : {M : Type 1} → statement M
 ventolaire-resolve-spec =

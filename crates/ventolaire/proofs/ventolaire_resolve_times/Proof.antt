@@ -1,7 +1,7 @@
 -- `ventolaire::ventolaire_resolve_times` meets its contract. Assumes nothing.
 use borrow.Author.Needs.{needs}
 use mathlib.Core.List.{_++_}
-use mathlib.Core.Path.{ap, _∙_, sym}
+use mathlib.Core.Path.{ap, _∙_, sym, refl}
 use lib.ListN.{drop}
 use denote.Ref.{now}
 use Rattle.model.specs.Answers.{answerNumbers}
@@ -12,7 +12,7 @@ use Rattle.ventolaire.proofs.ventolaire_resolve_times.Statement.{statem
 use Rattle.ventolaire.proofs.ventolaire_resolve_times.Tie as tie
 
 returns : tie.Need-returns
-returns c = answer-short (resolve (now (c .before .before .before .before .before .args .image)) (handleOf (c .before .before .before .before .before .args .mount) (c .before .before .before .before .before .args .node) (c .before .before .before .before .before .args .mark)) (now (c .before .before .before .before .before .args .path)) (now (c .before .before .before .before .before .args .how))) (now (c .before .before .before .before .before .args .out)) (c .if1 .taken)
+returns c = (answer-short (resolve (now (c .before .before .before .before .before .args .image)) (handleOf (c .before .before .before .before .before .args .mount) (c .before .before .before .before .before .args .node) (c .before .before .before .before .before .args .mark)) (now (c .before .before .before .before .before .args .path)) (now (c .before .before .before .before .before .args .how))) (now (c .before .before .before .before .before .args .out)) (c .if1 .taken), refl, refl, refl)
 
 check-requires : tie.Need-check-requires
 check-requires c κs = search needs
@@ -21,7 +21,7 @@ enum-told : tie.Need-enum-told
 enum-told c = search needs
 
 resolve-again-requires : tie.Need-resolve-again-requires
-resolve-again-requires c κs = sym (c .before .before .before .check .ensures) ∙ c .before .enum-told .given .1
+resolve-again-requires c κs = sym (c .before .before .before .check .ensures .0) ∙ c .before .enum-told .given .1
 
 put-answer-requires : tie.Need-put-answer-requires
 put-answer-requires c κs = search needs
@@ -32,7 +32,7 @@ same-length c = search needs
 returns-2 : tie.Need-returns-2
 returns-2 c =
     let a = resolve (now (c .before .before .before .before .before .before .before .before .before .before .before .before .before .args .image)) (handleOf (c .before .before .before .before .before .before .before .before .before .before .before .before .before .args .mount) (c .before .before .before .before .before .before .before .before .before .before .before .before .before .args .node) (c .before .before .before .before .before .before .before .before .before .before .before .before .before .args .mark)) (now (c .before .before .before .before .before .before .before .before .before .before .before .before .before .args .path)) (now (c .before .before .before .before .before .before .before .before .before .before .before .before .before .args .how)) in
-    answer-writes a (now (c .before .before .before .before .before .before .before .before .before .before .before .before .before .args .out)) (c .before .before .put-answer .last .0) (c .before .before .before .before .before .before .before .before .if1 .left) (c .before .before .put-answer .ensures ∙ ap (λ x. answerNumbers x ++ drop 6 (now (c .before .before .before .before .before .before .before .before .before .before .before .before .before .args .out))) (c .before .before .before .resolve-again .ensures))
+    (answer-writes a (now (c .before .before .before .before .before .before .before .before .before .before .before .before .before .args .out)) (c .before .before .put-answer .last .0) (c .before .before .before .before .before .before .before .before .if1 .left) (c .before .before .put-answer .ensures ∙ ap (λ x. answerNumbers x ++ drop 6 (now (c .before .before .before .before .before .before .before .before .before .before .before .before .before .args .out))) (c .before .before .before .resolve-again .ensures)), refl, refl, refl)
 
 enum-told-2 : tie.Need-enum-told-2
 enum-told-2 c = search needs
@@ -49,7 +49,7 @@ same-length-2 c = search needs
 returns-3 : tie.Need-returns-3
 returns-3 c =
     let a = resolve (now (c .before .before .before .before .before .before .before .before .before .before .before .before .before .args .image)) (handleOf (c .before .before .before .before .before .before .before .before .before .before .before .before .before .args .mount) (c .before .before .before .before .before .before .before .before .before .before .before .before .before .args .node) (c .before .before .before .before .before .before .before .before .before .before .before .before .before .args .mark)) (now (c .before .before .before .before .before .before .before .before .before .before .before .before .before .args .path)) (now (c .before .before .before .before .before .before .before .before .before .before .before .before .before .args .how)) in
-    answer-writes a (now (c .before .before .before .before .before .before .before .before .before .before .before .before .before .args .out)) (c .before .before .put-answer2 .last .0) (c .before .before .before .before .before .before .before .before .if1 .left) (c .before .before .put-answer2 .ensures ∙ ap (λ x. answerNumbers x ++ drop 6 (now (c .before .before .before .before .before .before .before .before .before .before .before .before .before .args .out))) (c .before .before .before .resolve .ensures))
+    (answer-writes a (now (c .before .before .before .before .before .before .before .before .before .before .before .before .before .args .out)) (c .before .before .put-answer2 .last .0) (c .before .before .before .before .before .before .before .before .if1 .left) (c .before .before .put-answer2 .ensures ∙ ap (λ x. answerNumbers x ++ drop 6 (now (c .before .before .before .before .before .before .before .before .before .before .before .before .before .args .out))) (c .before .before .before .resolve .ensures .0)), refl, refl, refl)
 
 pub ventolaire-resolve-times-spec : {M : Type 1} → statement M
 ventolaire-resolve-times-spec =
