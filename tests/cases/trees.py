@@ -125,3 +125,12 @@ def longest():
     t.symlink(rooms[39], "a", "./" * 2047 + ".")
     t.symlink(rooms[0], "s", "./" * 2047 + "s")
     return t.mount(0).image()
+
+
+def alike():
+    """Names of 20 bytes in the top: "abcdefgh", one more byte, "ijklmnopqrs". With "1" it is a file, with "3" another."""
+    t = Tree()
+    top = t.top()
+    t.file(top, "abcdefgh1ijklmnopqrs")
+    t.file(top, "abcdefgh3ijklmnopqrs")
+    return t.mount(0).image()

@@ -73,10 +73,11 @@ pub fn standing_on(p: Place, s: State) -> State
     ensures { λ r. ⌜ r ≡ standingOn p s ⌝ }
 {
     let progress = s.progress;
+    let required = s.directory;
     State {
         place: p,
         progress,
-        directory: s.directory,
+        directory: required,
     }
 }
 

@@ -1,7 +1,10 @@
 -- `resolver::resolve` meets its contract. Assumes nothing.
 use borrow.Author.Needs.{needs}
-use mathlib.Core.Path.{_∙_, sym, refl}
+use mathlib.Core.Path.{_∙_, sym, refl, subst}
 use denote.Ref.{now}
+use Rattle.model.specs.Answers.{progressOf}
+use Rattle.theorems.specs.Bounded.{Bounded}
+use Rattle.theorems.proofs.Bounds.{every-walk-bounded}
 use Rattle.resolver.proofs.CallLaws.{broken-call}
 use Rattle.resolver.proofs.resolve.Statement.{statement}
 use Rattle.resolver.proofs.resolve.Tie as tie
@@ -22,10 +25,12 @@ refuse-requires : tie.Need-refuse-requires
 refuse-requires c κs = search needs
 
 returns : tie.Need-returns
-returns c = (c .resolve-accepted .ensures .0, refl, refl, refl)
+returns c = (c .resolve-accepted .ensures .0, c .resolve-accepted .ensures .1, refl, refl, refl)
 
 returns-2 : tie.Need-returns-2
-returns-2 c = (c .refuse .ensures ∙ broken-call (now (c .before .before .before .before .before .before .before .args .image)) (c .before .before .before .before .before .before .before .args .h) (now (c .before .before .before .before .before .before .before .args .path)) (now (c .before .before .before .before .before .before .before .args .how)) _ _ (sym (c .before .before .before .check .ensures .0) ∙ c .before .enum-told2 .given .1), refl, refl, refl)
+returns-2 c =
+    let e = c .refuse .ensures ∙ broken-call (now (c .before .before .before .before .before .before .before .args .image)) (c .before .before .before .before .before .before .before .args .h) (now (c .before .before .before .before .before .before .before .args .path)) (now (c .before .before .before .before .before .before .before .args .how)) _ _ (sym (c .before .before .before .check .ensures .0) ∙ c .before .enum-told2 .given .1) in
+    (e, subst (λ a. Bounded (progressOf a)) (sym e) (every-walk-bounded _ _ _ _), refl, refl, refl)
 
 pub resolve-spec : {M : Type 1} → statement M
 resolve-spec =

@@ -1,8 +1,11 @@
 -- `resolver::resolve_accepted` meets its contract. Assumes nothing.
 use borrow.Author.Needs.{needs}
-use mathlib.Core.Path.{ap, _∙_, sym, refl}
+use mathlib.Core.Path.{ap, _∙_, sym, refl, subst}
 use native.Mathlib.Omega.{arith}
 use denote.Ref.{now}
+use Rattle.model.specs.Answers.{progressOf}
+use Rattle.theorems.specs.Bounded.{Bounded}
+use Rattle.theorems.proofs.Bounds.{every-walk-bounded}
 use Rattle.model.specs.Resolve.{refusedBefore}
 use Rattle.theorems.proofs.Acceptance.{accepted-sized}
 use Rattle.image.specs.Counts.{Counted}
@@ -66,7 +69,8 @@ returns c =
     let h = c .before .before .before .before .before .before .before .before .before .before .before .before .args .h in
     let r = c .before .before .before .before .before .before .before .before .read-counts .ensures in
     let b = walks-none (refusedBefore s h path how) (fieldsOf how) (c .before .before .before .before .before .read .given .0 .0) (sym (accepted-call s h path how (c .before .before .before .before .before .before .before .before .before .before .before .before .pre)) ∙ sym (c .before .before .before .before .before .before .before .check-call .ensures) ∙ c .before .before .before .before .before .read .given .1) in
-    (c .walk-path .ensures ∙ walked s h path how (c .before .before .before .before .before .read .given .0 .0) (c .before .before .before .ends-in-slash .result) (c .before .before .ask .result) (c .before .needs-directory .result) (b .0) (b .1) (c .before .before .before .ends-in-slash .ensures) (c .before .before .ask .ensures) (c .before .needs-directory .ensures), refl, refl, refl)
+    let e = c .walk-path .ensures ∙ walked s h path how (c .before .before .before .before .before .read .given .0 .0) (c .before .before .before .ends-in-slash .result) (c .before .before .ask .result) (c .before .needs-directory .result) (b .0) (b .1) (c .before .before .before .ends-in-slash .ensures) (c .before .before .ask .ensures) (c .before .needs-directory .ensures) in
+    (e, subst (λ a. Bounded (progressOf a)) (sym e) (every-walk-bounded s h path how), refl, refl, refl)
 
 returns-2 : tie.Need-returns-2
 returns-2 c =
@@ -75,7 +79,8 @@ returns-2 c =
     let how = now (c .before .before .before .before .before .before .before .before .args .how) in
     let h = c .before .before .before .before .before .before .before .before .args .h in
     let r = c .before .before .before .before .read-counts .ensures in
-    (refused-call s h path how (c .before .read2 .given .0 .0) (refused-some (refusedBefore s h path how) (fieldsOf how) (c .before .read2 .given .0 .0) (sym (accepted-call s h path how (c .before .before .before .before .before .before .before .before .pre)) ∙ sym (c .before .before .before .check-call .ensures) ∙ c .before .read2 .given .1)), refl, refl, refl)
+    let e = refused-call s h path how (c .before .read2 .given .0 .0) (refused-some (refusedBefore s h path how) (fieldsOf how) (c .before .read2 .given .0 .0) (sym (accepted-call s h path how (c .before .before .before .before .before .before .before .before .pre)) ∙ sym (c .before .before .before .check-call .ensures) ∙ c .before .read2 .given .1)) in
+    (e, subst (λ a. Bounded (progressOf a)) (sym e) (every-walk-bounded s h path how), refl, refl, refl)
 
 pub resolve-accepted-spec : {M : Type 1} → statement M
 resolve-accepted-spec =

@@ -12,11 +12,17 @@ resolve-requires-2 : tie.Need-resolve-requires-2
 resolve-requires-2 c κs = search needs
 
 returns : tie.Need-returns
-returns c = (record {
-  firstAnswer = c .before .resolve .ensures .0;
-  secondAnswer = c .resolve2 .ensures .0;
-  onlyStops = λ added. demand-3 added _ _ _ _ _ _;
-}, refl, refl, refl, refl)
+returns c = (
+  record {
+    firstAnswer = c .before .resolve .ensures .0;
+    secondAnswer = c .resolve2 .ensures .0;
+    onlyStops = λ added. demand-3 added _ _ _ _ _ _;
+  },
+  refl,
+  refl,
+  refl,
+  refl,
+)
 
 pub resolve-pair-spec : {M : Type 1} → statement M
 resolve-pair-spec = tie.close (tie.spec resolve-requires resolve-requires-2 returns)
