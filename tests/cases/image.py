@@ -84,33 +84,55 @@ def put(image, at, value, width):
     return image[:at] + number(value, width) + image[at + width :]
 
 
-def _change(image, at, layout, fields):
+# Where a field stands in its record, and its width.
+LAYOUT = {
+    "header": {"nodes": (4, 2), "mounts": (6, 2), "entries": (8, 2), "zero": (10, 2), "text": (12, 4), "total": (16, 4)},
+    "node": {"kind": (0, 2), "parent": (2, 2), "first": (4, 4), "count": (8, 4)},
+    "mount": {"root": (0, 2), "parent": (2, 2), "point": (4, 2), "zero": (6, 2)},
+    "entry": {"offset": (0, 4), "length": (4, 2), "node": (6, 2)},
+}
+
+
+def _at(image, kind, record):
+    """Where a record begins."""
+    nodes, mounts = field(image, 4, 2), field(image, 6, 2)
+    if kind == "header":
+        return 0
+    if kind == "node":
+        return 20 + 12 * record
+    return 20 + 12 * nodes + 8 * record + (8 * mounts if kind == "entry" else 0)
+
+
+def _change(image, kind, record, fields):
+    at = _at(image, kind, record)
     for name, value in fields.items():
-        offset, width = layout[name]
+        offset, width = LAYOUT[kind][name]
         image = put(image, at + offset, value, width)
     return image
 
 
 def node(image, record, **fields):
-    """The image with fields of a node changed: kind, parent, first, count."""
-    layout = {"kind": (0, 2), "parent": (2, 2), "first": (4, 4), "count": (8, 4)}
-    return _change(image, 20 + 12 * record, layout, fields)
+    """The image with fields of a node changed."""
+    return _change(image, "node", record, fields)
 
 
 def mount(image, record, **fields):
-    """The image with fields of a mount changed: root, parent, point, zero."""
-    layout = {"root": (0, 2), "parent": (2, 2), "point": (4, 2), "zero": (6, 2)}
-    return _change(image, 20 + 12 * field(image, 4, 2) + 8 * record, layout, fields)
+    """The image with fields of a mount changed."""
+    return _change(image, "mount", record, fields)
 
 
 def entry(image, record, **fields):
-    """The image with fields of an entry changed: offset, length, node."""
-    layout = {"offset": (0, 4), "length": (4, 2), "node": (6, 2)}
-    at = 20 + 12 * field(image, 4, 2) + 8 * field(image, 6, 2) + 8 * record
-    return _change(image, at, layout, fields)
+    """The image with fields of an entry changed."""
+    return _change(image, "entry", record, fields)
 
 
 def counts(image, **fields):
-    """The image with fields of its header changed: nodes, mounts, entries, zero, text, total."""
-    layout = {"nodes": (4, 2), "mounts": (6, 2), "entries": (8, 2), "zero": (10, 2), "text": (12, 4), "total": (16, 4)}
-    return _change(image, 0, layout, fields)
+    """The image with fields of its header changed."""
+    return _change(image, "header", 0, fields)
+
+
+def one_byte(image, kind, record, name, byte, value):
+    """The image with one byte of a field changed; byte 0 is the lowest."""
+    offset, width = LAYOUT[kind][name]
+    assert byte < width
+    return put(image, _at(image, kind, record) + offset + byte, value, 1)

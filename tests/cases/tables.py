@@ -166,7 +166,7 @@ says("1. Image length 20 to 65,536.")
 check("rule-1-empty", b"", broken(1), "no byte")
 check("rule-1-19", SMALLEST[:19], broken(1), "19 bytes")
 check("rule-1-20", header(1, 1, 0, 0, 20), broken(3), "20 bytes: the header alone")
-check("rule-1-65536", with_text(65536), ACCEPTED, "65,536 bytes")
+check("rule-1-65536", trees.far(), ACCEPTED, "65,536 bytes")
 check("rule-1-65537", with_text(65537), broken(1), "65,537 bytes")
 
 says("2. Signature and zero field.")
@@ -337,6 +337,11 @@ check("rule-6-point-outside-last", mount(MOUNTS, 3, point=1), broken(6, 3), "mou
 check("rule-6-point-root-first", mount(MOUNTS, 1, point=0), broken(6, 1), "mount 1 on mount 0's root")
 check("rule-6-point-root-last", mount(MOUNTS, 3, point=4), broken(6, 3), "mount 3 on mount 1's root")
 check("rule-6-parent-other", mount(MOUNTS, 3, parent=2), ACCEPTED, "mount 3 in mount 2, whose root is the same")
+LAYERED = trees.layered()
+check("rule-6-layered", LAYERED, ACCEPTED, "`layered` as it is: mount 6 in mount 2, whose root is 4")
+check("rule-6-point-beside-mount-2", mount(LAYERED, 6, point=8), broken(6, 6), "`layered`, mount 6 on 8, under mount 1's root and not mount 2's")
+check("rule-6-point-above-mount-2", mount(LAYERED, 6, point=3), broken(6, 6), "`layered`, mount 6 on 3, the parent of its parent's root")
+check("rule-6-point-root-of-mount-2", mount(LAYERED, 6, point=4), broken(6, 6), "`layered`, mount 6 on 4, its parent's root")
 
 says("no two mounts, neither being mount 0, share parent and point. .. Of two records that clash, the later breaks the rule.")
 check("rule-6-clash-first", mount(MOUNTS, 2, point=1), broken(6, 2), "mounts 1 and 2 on one place")
@@ -369,6 +374,9 @@ check("rule-7-two-mounts-hold", of_two_magic((0, 1), (1, 2)), ACCEPTED, "nodes 4
 check("rule-7-two-mounts", of_two_magic((0, 3), (1, 0)), broken(7, 4), "node 4 into mount 0, node 5 into mount 1, both outside")
 check("rule-7-two-mounts-swapped", of_two_magic((1, 0), (0, 3)), broken(7, 4), "node 4 into mount 1, node 5 into mount 0, both outside")
 check("rule-7-second-mount-alone", of_two_magic((0, 0), (1, 0)), broken(7, 5), "node 4 to (0,0), node 5 to (1,0)")
+check("rule-7-mount-3", node(LAYERED, 15, first=3, count=11), ACCEPTED, "`layered`, node 15 to (3,11), under mount 3's root")
+check("rule-7-mount-2-beside", node(LAYERED, 15, first=2, count=8), broken(7, 15), "`layered`, node 15 to (2,8), under mount 1's root and not mount 2's")
+check("rule-7-mount-6-above", node(LAYERED, 15, first=6, count=0), broken(7, 15), "`layered`, node 15 to (6,0), under mount 0's root and not mount 6's")
 check("rule-7-second-mount-top", of_two_magic((0, 1), (1, 3)), broken(7, 5), "node 4 to (0,1), node 5 to a top of no mount, in mount 1")
 
 # ---------------------------------------------------------------------------------------------------------------------------------

@@ -54,7 +54,8 @@ def linked():
     6 "to" to `sub`, 7 "root" to `/`, in 1 too, 8 "slashes" to `///`, 9 "dot" to `.`, 10 "long" to a name of 256 bytes, 11 "gone" to
     `nothing`, 12 "past" to `f/x`, 15 "dirs" to `sub/`, 16 "again" to `root`. File 13 with a name of 255 bytes, 14 "..." in 0. Magic in
     0: 17 "md" to (0,1), 20 "mf" to (0,2); links in 0 to them: 18 "tomd" to `md`, 19 "tomds" to `md/`, 21 "tomf" to `mf`, 22 "tomfs" to
-    `mf/`."""
+    `mf/`. Links in 0 with absolute bodies: 23 "absf" to `/d/f/`, 24 "absd" to `/d/`, 25 "absfs" to `//d//f//`, 26 "absway" to `/way/`,
+    27 "absto" to `/to/`, 28 "absmf" to `/mf/`; and 29 "toabsf" to `absf`, 30 "toabsd" to `absd`."""
     t = Tree()
     top = t.top()
     d = t.directory(top, "d")
@@ -81,6 +82,14 @@ def linked():
     t.magic(top, "mf", (0, 2))
     t.symlink(top, "tomf", "mf")
     t.symlink(top, "tomfs", "mf/")
+    t.symlink(top, "absf", "/d/f/")
+    t.symlink(top, "absd", "/d/")
+    t.symlink(top, "absfs", "//d//f//")
+    t.symlink(top, "absway", "/way/")
+    t.symlink(top, "absto", "/to/")
+    t.symlink(top, "absmf", "/mf/")
+    t.symlink(top, "toabsf", "absf")
+    t.symlink(top, "toabsd", "absd")
     return t.mount(0).image()
 
 
@@ -96,7 +105,9 @@ def bound():
 def chains():
     """Directories 0 top, 1 "d" in 0. In 0 magic 2 "m" to (0,0) and link 3 "j" to `/d`, and for i from 0 to 40 links to the next:
     `t<i>` by its name, `n<i>` by its name and `/.`, `a<i>` by an absolute body, `u<i>` and `v<i>` by its name. The links numbered 40
-    lead to "d", `u40` to "m" and `v40` to "j"."""
+    lead to "d", `u40` to "m" and `v40` to "j". Then file 209 "f" in 0, magic 210 "mf" to it, and for i from 0 to 40 more links to the
+    next: `w<i>` by its name, `s<i>` and `r<i>` by its name and `/`; `w40` leads to `f`, `s40` to `f/`, `r40` to `d/`. Links in 0 to one
+    body each: "e" to `f/`, "k" to `d/`, "x" to `w2/`, "y" to `t2/`, "z" to `mf/`."""
     t = Tree()
     top = t.top()
     t.directory(top, "d")
@@ -109,6 +120,15 @@ def chains():
         t.symlink(top, f"a{i}", "/d" if last else f"/a{i + 1}")
         t.symlink(top, f"u{i}", "m" if last else f"u{i + 1}")
         t.symlink(top, f"v{i}", "j" if last else f"v{i + 1}")
+    f = t.file(top, "f")
+    t.magic(top, "mf", (0, f))
+    for i in range(41):
+        last = i == 40
+        t.symlink(top, f"w{i}", "f" if last else f"w{i + 1}")
+        t.symlink(top, f"s{i}", "f/" if last else f"s{i + 1}/")
+        t.symlink(top, f"r{i}", "d/" if last else f"r{i + 1}/")
+    for name, body in [("e", "f/"), ("k", "d/"), ("x", "w2/"), ("y", "t2/"), ("z", "mf/")]:
+        t.symlink(top, name, body)
     return t.mount(0).image()
 
 
@@ -134,3 +154,83 @@ def alike():
     t.file(top, "abcdefgh1ijklmnopqrs")
     t.file(top, "abcdefgh3ijklmnopqrs")
     return t.mount(0).image()
+
+
+def layered():
+    """Directories 0 top, 1 "a" in 0, 2 "b" in 1, 3 top of a second tree, 4 "c" in 3, 5 "d" in 4, 6 "e" in 5, 7 top of a third tree, 8 "g"
+    in 3, 9 "h" in 5, 11 "i" in 7, 16 "k" in 11. File 10 "f" in 7. Magic in 0: 12 "in" to (2,6), 14 "near" to (1,6), 15 "far" to (5,6); in 4: 13 "m"
+    to (2,6). Mount 1 has root 3 on (0,1), mount 2 root 4 on (1,8), mount 3 root 7 on (2,5), mount 4 root 11 on (1,5), mount 5 root 3 on
+    (3,11), mount 6 root 1 on (2,9)."""
+    t = Tree()
+    top = t.top()
+    a = t.directory(top, "a")
+    t.directory(a, "b")
+    second = t.top()
+    c = t.directory(second, "c")
+    d = t.directory(c, "d")
+    e = t.directory(d, "e")
+    third = t.top()
+    t.directory(second, "g")
+    t.directory(d, "h")
+    t.file(third, "f")
+    i = t.directory(third, "i")
+    t.magic(top, "in", (2, e))
+    t.magic(c, "m", (2, e))
+    t.magic(top, "near", (1, e))
+    t.magic(top, "far", (5, e))
+    t.directory(i, "k")
+    t.mount(0).mount(3, 0, 1).mount(4, 1, 8).mount(7, 2, 5)
+    return t.mount(11, 1, 5).mount(3, 3, 11).mount(1, 2, 9).image()
+
+
+def wide():
+    """269 nodes, 266 entries, 259 of them in the top. Directories 0 top, 1 "a" in 0, 2 "b" in 1, 3 "c" in 0, 4 top of a second tree, 5 "e"
+    in 4; files 6 to 255 in 0, each named by its number; directories 256 "o" and 257 "q" in 0, 258 "r" and 259 "p" in 257, 260 top of a
+    third tree, 261 "s" in 260, 262 "t" in 261; file 263 "f" in 261. Links in 0: 264 "l" to `q/r`, 265 "w" to 150 times `./` and `q`.
+    Magic in 0: 266 "m" to (0,257), 267 "n" to (1,263), 268 "u" to (1,261). Mount 1 has root 260 on (0,259)."""
+    t = Tree()
+    top = t.top()
+    a = t.directory(top, "a")
+    t.directory(a, "b")
+    t.directory(top, "c")
+    second = t.top()
+    t.directory(second, "e")
+    for i in range(6, 256):
+        t.file(top, f"{i}")
+    t.directory(top, "o")
+    q = t.directory(top, "q")
+    t.directory(q, "r")
+    t.directory(q, "p")
+    third = t.top()
+    s = t.directory(third, "s")
+    t.directory(s, "t")
+    t.file(s, "f")
+    t.symlink(top, "l", "q/r")
+    t.symlink(top, "w", "./" * 150 + "q")
+    t.magic(top, "m", (0, 257))
+    t.magic(top, "n", (1, 263))
+    t.magic(top, "u", (1, 261))
+    return t.mount(0).mount(260, 0, 259).image()
+
+
+def far():
+    """65,536 bytes. Directory 0 top; file 1 "f" and link 2 "l" to `f` in it, with their names and the body in the last three bytes."""
+    t = Tree()
+    top = t.top()
+    t.put(b"x" * (65536 - 20 - 3 * 12 - 8 - 2 * 8 - 3))
+    t.file(top, "f")
+    t.symlink(top, "l", "f")
+    return t.mount(0).image()
+
+
+def narrow():
+    """A table of every kind of record, in which no field is above 255. Directories 0 top, 1 "d" in 0, 5 top of a second tree. File 2 "f",
+    link 3 "l" to `f` and magic 4 "m" to (1,5) in 1. Mount 1 has root 5 on (0,1)."""
+    t = Tree()
+    top = t.top()
+    d = t.directory(top, "d")
+    t.file(d, "f")
+    t.symlink(d, "l", "f")
+    t.magic(d, "m", (1, 5))
+    t.top()
+    return t.mount(0).mount(5, 0, 1).image()
