@@ -1,5 +1,7 @@
-// "A reading place in the text that knows which bytes remain." The borrow checker covers no function over a struct that holds a
-// slice, so those here only take it apart or put it together, and are proved by hand; `span_at` does the work.
+// "A reading place in the text that knows which bytes remain": a `Reader` is a text and a position in it. The borrow checker
+// covers no function over a struct that holds a slice, so those here are thin: each takes the reader apart or puts one together,
+// leaves the work to a covered function of a slice and a position, and is proved by hand. `next_component` serves callers that
+// hold a text and a position: their own proofs stay the borrow checker's.
 use text::component_end;
 use text::skip_slashes;
 ghost use mathlib.Core.Path.{_≡_};
@@ -17,7 +19,7 @@ pub struct Span {
     pub next: usize,
 }
 
-// The component at a position of a text.
+// The work of `component`.
 fn span_at(s: &[u8], at: usize) -> Span
     ensures { λ r. ⌜ r ≡ spanAt (now (s .entry)) at ⌝ }
 {
@@ -26,22 +28,25 @@ fn span_at(s: &[u8], at: usize) -> Span
     Span { end, next }
 }
 
-fn read_from<'a>(text: &'a [u8], at: usize) -> Reader<'a>
-    ensures { λ r. ⌜ (r .text ≡ text .entry) × (r .at ≡ at) ⌝ }
-{
-    Reader { text, at }
+impl<'a> Reader<'a> {
+    // The reading place at a position of a text.
+    pub fn at(text: &'a [u8], at: usize) -> Reader<'a>
+        ensures { λ r. ⌜ (r .text ≡ text .entry) × (r .at ≡ at) ⌝ }
+    {
+        Reader { text, at }
+    }
+
+    // The component there: where it ends, and where the one after it starts.
+    pub fn component(self) -> Span
+        ensures { λ n. ⌜ n ≡ spanAt (now (self .entry .text)) (self .entry .at) ⌝ }
+    {
+        span_at(self.text, self.at)
+    }
 }
 
-// The component at the reading place.
-fn next<'a>(r: Reader<'a>) -> Span
-    ensures { λ n. ⌜ n ≡ spanAt (now (r .entry .text)) (r .entry .at) ⌝ }
-{
-    span_at(r.text, r.at)
-}
-
-// The same of a text and a position, for callers that hold no reader.
+// The component at a position of a text.
 pub fn next_component(text: &[u8], at: usize) -> Span
     ensures { λ r. ⌜ r ≡ spanAt (now (text .entry)) at ⌝ }
 {
-    next(read_from(text, at))
+    Reader::at(text, at).component()
 }
