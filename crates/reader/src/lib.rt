@@ -5,6 +5,8 @@
 use text::component_end;
 use text::skip_slashes;
 ghost use mathlib.Core.Path.{_≡_};
+ghost use Prim.Native.Nat.{_≤_};
+ghost use lib.ListN.{length, drop};
 ghost use Rattle.reader.specs.Spans.{spanAt};
 
 // A text and a position in it: what remains are the bytes from there on.
@@ -28,12 +30,28 @@ fn span_at(s: &[u8], at: usize) -> Span
     Span { end, next }
 }
 
+// The work of `remaining`.
+fn rest_at<'a>(s: &'a [u8], at: usize) -> &'a [u8]
+    requires { ⌜ at ≤ length (now s) ⌝ }
+    ensures { λ r. ⌜ now r ≡ drop at (now (s .entry)) ⌝ }
+{
+    &s[at..]
+}
+
 impl<'a> Reader<'a> {
     // The reading place at a position of a text.
     pub fn at(text: &'a [u8], at: usize) -> Reader<'a>
         ensures { λ r. ⌜ (r .text ≡ text .entry) × (r .at ≡ at) ⌝ }
     {
         Reader { text, at }
+    }
+
+    // The bytes that remain, as a part of the text.
+    pub fn remaining(self) -> &'a [u8]
+        requires { ⌜ self .at ≤ length (now (self .text)) ⌝ }
+        ensures { λ r. ⌜ now r ≡ drop (self .entry .at) (now (self .entry .text)) ⌝ }
+    {
+        rest_at(self.text, self.at)
     }
 
     // The component there: where it ends, and where the one after it starts.
