@@ -1,11 +1,12 @@
 // "A reading place in the text that knows which bytes remain": a `Reader` is a text and a position in it. The borrow checker
-// covers no function over a struct that holds a slice, so those here are thin: each takes the reader apart or puts one together,
-// leaves the work to a covered function of a slice and a position, and is proved by hand. `next_component` serves callers that
-// hold a text and a position: their own proofs stay the borrow checker's.
+// covers no function over a struct that holds a slice, so those here are thin: each takes a reader apart or puts one together,
+// leaves the work to a covered function of a slice and a position, and is proved by hand. `next_component` and `at_end` serve
+// callers that hold a text and a position: they make the reader, and such a caller's own proof stays the borrow checker's.
 use text::component_end;
 use text::skip_slashes;
 ghost use mathlib.Core.Path.{_≡_};
 ghost use Prim.Native.Nat.{_≤_};
+ghost use lib.Dec.{eqb};
 ghost use lib.ListN.{length, drop};
 ghost use Rattle.reader.specs.Spans.{spanAt};
 
@@ -67,4 +68,19 @@ pub fn next_component(text: &[u8], at: usize) -> Span
     ensures { λ r. ⌜ r ≡ spanAt (now (text .entry)) at ⌝ }
 {
     Reader::at(text, at).component()
+}
+
+// The work of `at_end`.
+fn is_empty(s: &[u8]) -> bool
+    ensures { λ r. ⌜ r ≡ eqb (length (now (s .entry))) 0 ⌝ }
+{
+    s.len() == 0
+}
+
+// Whether no byte remains at a position of a text.
+pub fn at_end(text: &[u8], at: usize) -> bool
+    requires { ⌜ at ≤ length (now text) ⌝ }
+    ensures { λ r. ⌜ r ≡ eqb at (length (now (text .entry))) ⌝ }
+{
+    is_empty(Reader::at(text, at).remaining())
 }

@@ -1,0 +1,10 @@
+-- `reader::is_empty` meets its contract. Assumes nothing.
+use mathlib.Core.Path.{refl}
+use Rattle.reader.proofs.is_empty.Statement.{statement}
+use Rattle.reader.proofs.is_empty.Tie as tie
+
+returns : tie.Need-returns
+returns c = refl
+
+pub is-empty-spec : {M : Type 1} → statement M
+is-empty-spec = tie.close (tie.spec returns)
