@@ -8,6 +8,7 @@ ghost use mathlib.Core.Path.{_≡_};
 ghost use Prim.Native.Nat.{_≤_};
 ghost use lib.Dec.{eqb};
 ghost use lib.ListN.{length, drop};
+ghost use Rattle.text.specs.Positions.{nextStart};
 ghost use Rattle.reader.specs.Spans.{spanAt};
 
 // A text and a position in it: what remains are the bytes from there on.
@@ -39,6 +40,14 @@ fn rest_at<'a>(s: &'a [u8], at: usize) -> &'a [u8]
     &s[at..]
 }
 
+// The work of `behind`.
+fn next_start(s: &[u8], at: usize) -> usize
+    ensures { λ r. ⌜ r ≡ nextStart (now (s .entry)) at ⌝ }
+{
+    let span = span_at(s, at);
+    span.next
+}
+
 impl<'a> Reader<'a> {
     // The reading place at a position of a text.
     pub fn at(text: &'a [u8], at: usize) -> Reader<'a>
@@ -60,6 +69,17 @@ impl<'a> Reader<'a> {
         ensures { λ n. ⌜ n ≡ spanAt (now (self .entry .text)) (self .entry .at) ⌝ }
     {
         span_at(self.text, self.at)
+    }
+
+    // The reading place behind that component: where the one after it starts, in the same text.
+    pub fn behind(self) -> Reader<'a>
+        ensures { λ b. ⌜ (b .text ≡ self .entry .text) × (b .at ≡ nextStart (now (self .entry .text)) (self .entry .at)) ⌝ }
+    {
+        let next = next_start(self.text, self.at);
+        Reader {
+            text: self.text,
+            at: next,
+        }
     }
 }
 
