@@ -1,13 +1,14 @@
 -- One component under restrictions: what the definitions' step comes to once the restrictions have read its events.
 use Prim.Native.Nat.{ℕ}
 use mathlib.Core.Bool.{Bool, cond}
-use mathlib.Core.List.{List, [], _∷_}
+use mathlib.Core.List.{List}
 use mathlib.Core.Option.{Option, none, some}
 use lib.Dec.{ltb}
-use Rattle.model.specs.Bytes.{has, orElse, sameBytes, ascii}
+use Rattle.model.specs.Bytes.{has, sameBytes, ascii}
 use Rattle.model.specs.Tree.{treeOf}
 use Rattle.model.specs.OpenHow.{NO-XDEV, NO-MAGICLINKS, NO-SYMLINKS, BENEATH, IN-ROOT}
-use Rattle.model.specs.Trace.{Event, Restriction, mark, beneath, noXdev, noSymlinks, noMagiclinks, Restrictions, forbids}
+use Rattle.model.specs.Trace.{Restriction, mark, beneath, noXdev, noSymlinks, noMagiclinks, Restrictions}
+unfoldable pub use Rattle.model.specs.Trace.{forbidAny}
 use Rattle.model.specs.Walk.{Request, Move, stayAt, climb, atTop, Landing, outside, target, reading, Step, fail, go, follow}
 use Rattle.model.specs.declared.Place.{Place}
 use Rattle.model.specs.declared.Errno.{Errno}
@@ -37,11 +38,6 @@ restrictionsBy m bits noMagiclinks = has NO-MAGICLINKS bits
 
 abbrev pub restrictionsFor : Ask → Restrictions
 restrictionsFor k = restrictionsBy (k .mark) (k .resolve)
-
--- the error of the first event of a list that the restrictions forbid
-unfoldable pub forbidAny : Restrictions → List Event → Option Errno
-forbidAny R [] = none
-forbidAny R (e ∷ es) = orElse (forbids R e) (forbidAny R es)
 
 abbrev pub stopOr : Option Errno → Outcome → Outcome
 stopOr none o = o

@@ -8,7 +8,9 @@ use lib.ListN.{set}
 use Rattle.model.specs.Bytes.{fieldBytes, ascii}
 use Rattle.model.specs.Answers.{notWalked, refused}
 use Rattle.model.specs.OpenHow.{O-DIRECTORY, O-NOFOLLOW, O-PATH, NO-XDEV, NO-MAGICLINKS, NO-SYMLINKS, BENEATH, IN-ROOT}
-use Rattle.model.specs.Resolve.{resolve}
+use Rattle.model.specs.Walk.{placeAt}
+use Rattle.model.specs.Resolve.{resolve, placesOf}
+use Rattle.model.specs.declared.Place.{Place}
 use Rattle.model.specs.declared.Handle.{Handle}
 use Rattle.model.specs.declared.Errno.{Errno}
 use Rattle.model.specs.declared.Errno.the-variants.{Einval, Enoent, Enotdir, Eloop, Exdev}
@@ -207,3 +209,34 @@ ownTable =
 -- what the resolver answers to a case
 unfoldable pub run : Case → Answer
 run c = resolve (c .image) (c .handle) (c .path) (openHow (c .flags) (c .bits))
+
+-- a call over the bench tree from (0,1), marked or not, and the places that its walk stands on
+pub record Stood : Type 0 where
+  pub marked : Bool
+  pub path : List ℕ
+  pub flags : ℕ
+  pub bits : ℕ
+  pub places : List Place
+
+abbrev pub stands : Bool → String → ℕ → ℕ → List Place → Stood
+stands marked path flags bits ps = record { marked = marked; path = ascii path; flags = flags; bits = bits; places = ps }
+
+-- The places of calls above: the start, then where each component and each followed link leads. A mount's point is passed on the way
+-- up, a walk that is stopped goes no further, and one that is refused at Start, or before, stands nowhere.
+unfoldable pub stoodTable : List Stood
+stoodTable =
+    stands false "cal/tare" 0 0 (placeAt 0 1 ∷ placeAt 0 2 ∷ placeAt 0 3 ∷ [])
+    ∷ stands false "pool/run" 0 0 (placeAt 0 1 ∷ placeAt 1 8 ∷ placeAt 1 9 ∷ [])
+    ∷ stands false "pool/run" 0 NO-XDEV (placeAt 0 1 ∷ [])
+    ∷ stands false "pool/../cal" 0 BENEATH (placeAt 0 1 ∷ placeAt 1 8 ∷ placeAt 0 1 ∷ placeAt 0 2 ∷ [])
+    ∷ stands false "cal/abs" 0 0 (placeAt 0 1 ∷ placeAt 0 2 ∷ placeAt 0 0 ∷ placeAt 0 1 ∷ placeAt 0 2 ∷ placeAt 0 3 ∷ [])
+    ∷ stands false "cal/abs" 0 IN-ROOT (placeAt 0 1 ∷ placeAt 0 2 ∷ placeAt 0 1 ∷ [])
+    ∷ stands false "cal/up" 0 BENEATH (placeAt 0 1 ∷ placeAt 0 2 ∷ placeAt 0 2 ∷ placeAt 0 1 ∷ [])
+    ∷ stands false "cal/fd" 0 NO-XDEV (placeAt 0 1 ∷ placeAt 0 2 ∷ placeAt 0 3 ∷ [])
+    ∷ stands false "/" 0 0 (placeAt 0 0 ∷ [])
+    ∷ stands true "/lab" 0 0 []
+    ∷ stands false "" 0 0 []
+    ∷ []
+
+unfoldable pub stood : Stood → List Place
+stood c = placesOf bench (handleAt 0 1 (c .marked)) (c .path) (openHow (c .flags) (c .bits))

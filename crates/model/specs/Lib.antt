@@ -9,5 +9,6 @@ pub mod Path
 pub mod Handles
 pub mod Trace
 pub mod Walk
+pub mod Step
 pub mod Resolve
 pub mod BenchTree

@@ -3,15 +3,16 @@ use Prim.Native.Nat.{ℕ}
 use mathlib.Core.Bool.{Bool, true, false, cond, not, _||_}
 use mathlib.Core.List.{List, []}
 use mathlib.Core.Option.{Option, none, some}
-use Rattle.model.specs.Bytes.{has, orElse}
+use Rattle.model.specs.Bytes.{has, orElse, unless}
 use Rattle.model.specs.Tree.{treeOf}
 use Rattle.model.specs.Answers.{refusal, notWalked}
 use Rattle.model.specs.TableCheck.{tableCheck}
 use Rattle.model.specs.OpenHow.{flagsOf, resolveOf, howRefused, O-DIRECTORY, O-NOFOLLOW, O-PATH, NO-XDEV, NO-MAGICLINKS, NO-SYMLINKS, BENEATH, IN-ROOT}
 use Rattle.model.specs.Path.{pathRefused, endsInSlash}
 use Rattle.model.specs.Handles.{placeOf, handleRefused}
-use Rattle.model.specs.Trace.{Restriction, mark, beneath, noXdev, noSymlinks, noMagiclinks, Restrictions, Trace, answer}
+use Rattle.model.specs.Trace.{Restriction, mark, beneath, noXdev, noSymlinks, noMagiclinks, Restrictions, Trace, answer, stoodOn}
 use Rattle.model.specs.Walk.{Request, rootOf, walkPath}
+use Rattle.model.specs.declared.Place.{Place}
 use Rattle.model.specs.declared.Handle.{Handle}
 use Rattle.model.specs.declared.Refusal.{Refusal}
 use Rattle.model.specs.declared.Errno.the-variants.{Euclean}
@@ -64,3 +65,8 @@ unlessRefused (some r) a = Refused r
 unfoldable pub resolve : List ℕ → Handle → List ℕ → List ℕ → Answer
 resolve image h path how =
     unlessRefused (refusedBefore image h path how) (answer (restrictions h how) (traceOf image h path how))
+
+-- the places that a call's walk stands on; a call refused before the walk stands on none
+unfoldable pub placesOf : List ℕ → Handle → List ℕ → List ℕ → List Place
+placesOf image h path how =
+    unless (refusedBefore image h path how) (stoodOn (restrictions h how) (traceOf image h path how))

@@ -4,6 +4,7 @@ use mathlib.Core.Bool.{Bool, true, false, cond}
 use mathlib.Core.List.{List, [], _∷_, _++_}
 use mathlib.Core.Option.{Option, none, some}
 use Rattle.model.specs.Answers.{refused}
+use Rattle.model.specs.Bytes.{orElse, unless}
 use Rattle.model.specs.declared.Place.{Place}
 use Rattle.model.specs.declared.Progress.{Progress}
 use Rattle.model.specs.declared.Errno.{Errno}
@@ -62,6 +63,11 @@ firstSet R (x ∷ xs) = cond (R (x .0)) (some (x .1)) (firstSet R xs)
 unfoldable pub forbids : Restrictions → Event → Option Errno
 forbids R e = firstSet R (row e)
 
+-- the error of the first event of a list that the restrictions forbid
+unfoldable pub forbidAny : Restrictions → List Event → Option Errno
+forbidAny R [] = none
+forbidAny R (e ∷ es) = orElse (forbids R e) (forbidAny R es)
+
 abbrev pub refusedBy : Option Errno → Progress → Answer → Answer
 refusedBy none p later = later
 refusedBy (some e) p later = refused e p
@@ -72,3 +78,9 @@ unfoldable pub answer : Restrictions → Trace → Answer
 answer R (stop a) = a
 answer R (stand p later) = answer R later
 answer R (meet e p later) = refusedBy (forbids R e) p (answer R later)
+
+-- the places that a walk stands on under a set of restrictions, in the order stood on, up to the event that stops it
+unfoldable pub stoodOn : Restrictions → Trace → List Place
+stoodOn R (stop a) = []
+stoodOn R (stand p later) = p ∷ stoodOn R later
+stoodOn R (meet e p later) = unless (forbids R e) (stoodOn R later)

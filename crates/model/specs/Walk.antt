@@ -170,46 +170,73 @@ abbrev pub isEmpty {ℓ} : {A : Type ℓ} → List A → Bool
 isEmpty [] = true
 isEmpty (x ∷ xs) = false
 
--- what is done with a followed link: its events, where it leads, what is pending, the state
-abbrev pub Follow : Type 0
-Follow = List Event → Landing → List Component → State → Trace
+-- What taking a component comes to, no restriction being applied: a refusal in a state; on in a state to the components behind it;
+-- or, a link having been followed, on in a state to these components, with one link fewer left.
+pub data Turn : Type 0 where
+  refuses : Errno → State → Turn
+  went : State → Turn
+  followed : List Component → State → Turn
 
--- "Only now does it count as followed; a magic link does once its target is stood on.": the rest of the walk, from where the
--- link leads, with the components of the body in front of the pending ones
-abbrev pub land : Request → (List Component → State → Trace) → Landing → List Component → State → Trace
-land a later outside pending s = stop (refused Exdev (s .progress))
-land a later (target p) pending s = stand p (later pending (followedTo p false s))
-land a later (reading n p) pending s =
-    stand p (later (components n (a .tree .body n) ++ pending) (followedTo p (isEmpty pending && endsInSlash (a .tree .body n)) s))
+-- Taking a component: the events met, the state in which they are met, and what it comes to.
+pub record Transition : Type 0 where
+  pub events : List Event
+  pub met : State
+  pub turn : Turn
 
--- with links left: the events, then the landing
-unfoldable pub followOn : Request → (List Component → State → Trace) → Follow
-followOn a later es l pending s = meets es (s .progress) (land a later l pending s)
+-- a refusal before any event
+abbrev pub refusesAt : Errno → State → Transition
+refusesAt e s = record { events = []; met = s; turn = refuses e s }
 
--- "the 41st gives ELOOP. Then event Link.": no link is left, and no event is met
-unfoldable pub followNone : Follow
-followNone es l pending s = stop (refused Eloop (s .progress))
+-- "Only now does it count as followed; a magic link does once its target is stood on.": the components of a body come in front of
+-- the pending ones
+abbrev pub land : Request → Landing → List Component → State → Turn
+land a outside pending s = refuses Exdev s
+land a (target p) pending s = followed pending (followedTo p false s)
+land a (reading n p) pending s =
+    followed (components n (a .tree .body n) ++ pending) (followedTo p (isEmpty pending && endsInSlash (a .tree .body n)) s)
 
--- one step, and the rest of the walk
-abbrev pub continue : Follow → Step → (State → Trace) → List Component → State → Trace
-continue f (fail e) later pending s = stop (refused e (s .progress))
-continue f (go es p) later pending s = meets es (s .progress) (stand p (later (standingOn p s)))
-continue f (follow es l) later pending s = f es l pending s
+-- "the 41st gives ELOOP. Then event Link.": with no link left, no event is met
+abbrev pub ifLeft : ℕ → State → Transition → Transition
+ifLeft zero s t = refusesAt Eloop s
+ifLeft (suc links) s t = t
 
--- The pending components are those of the text being read and then of all texts still open, so "a component is last if only
--- slashes follow in its text and in all texts still open" is that none is pending after it.
--- "Not last and not a directory: ENOTDIR, before the next component is taken."
-unfoldable pub walkPending : Request → Follow → List Component → State → Trace
-walkPending a f [] s = stop (finish a s)
-walkPending a f (c ∷ pending) s =
+abbrev pub transitionBy : Request → ℕ → List Component → State → Step → Transition
+transitionBy a links pending s (fail e) = refusesAt e s
+transitionBy a links pending s (go es p) = record { events = es; met = s; turn = went (standingOn p s) }
+transitionBy a links pending s (follow es l) = ifLeft links s (record { events = es; met = s; turn = land a l pending s })
+
+-- One component, with a number of links left and the components pending behind it. Those are the ones of the text being read and then
+-- of all texts still open, so "a component is last if only slashes follow in its text and in all texts still open" is that there are
+-- none. "Not last and not a directory: ENOTDIR, before the next component is taken."
+unfoldable pub transition : Request → ℕ → Component → List Component → State → Transition
+transition a links c pending s =
     cond (isDirectory (a .tree) (s .place .node))
-    (continue f (oneComponent a (isEmpty pending) (s .place) (c .bytes)) (walkPending a f pending) pending (taken s))
-    (stop (refused Enotdir (s .progress)))
+    (transitionBy a links pending (taken s) (oneComponent a (isEmpty pending) (s .place) (c .bytes)))
+    (refusesAt Enotdir s)
+
+-- the trace of what a component comes to, with the walk on from there
+abbrev pub turned : (State → Trace) → (List Component → State → Trace) → Turn → Trace
+turned on later (refuses e s) = stop (refused e (s .progress))
+turned on later (went s) = stand (s .place) (on s)
+turned on later (followed cs s) = stand (s .place) (later cs s)
+
+-- the trace of a transition, with the walk on from there
+abbrev pub traced : (State → Trace) → (List Component → State → Trace) → Transition → Trace
+traced on later t = meets (t .events) (t .met .progress) (turned on later (t .turn))
+
+-- A walk repeats transitions until no component is pending; `later` is the walk once a link is followed.
+unfoldable pub walkPending : Request → ℕ → (List Component → State → Trace) → List Component → State → Trace
+walkPending a links later [] s = stop (finish a s)
+walkPending a links later (c ∷ pending) s = traced (walkPending a links later pending) later (transition a links c pending s)
+
+-- never come to: with no link left none is followed
+abbrev pub noneLeft : List Component → State → Trace
+noneLeft cs s = stop (refused Eloop (s .progress))
 
 -- the walk with a number of links left to follow
 unfoldable pub walk : Request → ℕ → List Component → State → Trace
-walk a zero pending s = walkPending a followNone pending s
-walk a (suc left) pending s = walkPending a (followOn a (walk a left)) pending s
+walk a zero pending s = walkPending a zero noneLeft pending s
+walk a (suc links) pending s = walkPending a (suc links) (walk a links) pending s
 
 -- "Start" is an absolute given path: it is met with both counts 0. "A path starting with "/" begins at the root, another at the
 -- handle." "40 links pass, 41 don't"

@@ -11,18 +11,19 @@ use Rattle.model.specs.Answers.{notWalked}
 use Rattle.model.specs.Path.{givenPath, components}
 use Rattle.model.specs.Trace.{answer}
 use Rattle.model.specs.Walk.{finish, walk, beginAt}
+use Rattle.model.specs.Step.{answerFrom}
 use Rattle.model.specs.declared.Place.{Place}
 use Rattle.model.specs.declared.State.{State}
 use Rattle.theorems.proofs.Bounds.{components-few}
-use Rattle.theorems.proofs.Inside.{Inside}
+use Rattle.theorems.specs.Inside.{Inside}
+use Rattle.theorems.proofs.Steps.{walk-on-with}
 use Rattle.text.specs.Positions.{Stands, slashes, left}
 use Rattle.text.specs.Texts.{textOf}
 use Rattle.text.proofs.Components.{left-start, left-end, start-stands}
 use Rattle.text.proofs.Texts.{text-path, path-readable}
 use Rattle.component.specs.Outcomes.{requestFor, restrictionsFor}
 use Rattle.component.specs.declared.Ask.{Ask}
-use Rattle.walk.proofs.WalkLaws.{walk-end}
-use Rattle.walk.specs.Open.{leftIn, suspended, pending, rest, budget, Standing}
+use Rattle.walk.specs.Open.{leftIn, suspended, pending, rest, Ready}
 use Rattle.walk.specs.declared.Walk.{Walk}
 
 abbrev pub atStart : Place → Bool → State
@@ -42,32 +43,35 @@ module _ (s path stack : List ℕ) (k : Ask) (p : Place) (directory : Bool) wher
       ∙ ap (λ xs. left 65535 xs (slashes path)) given ∙ sym (left-start 65535 path)
 
   pub begin-rest : rest s k path stack (walkAt p directory (slashes path)) ≡ answer (restrictionsFor k) (beginAt (requestFor s k) directory path p)
-  unfolding rest beginAt answer
+  unfolding answerFrom beginAt answer
   begin-rest = ap (λ cs. answer (restrictionsFor k) (walk (requestFor s k) 40 cs (atStart p directory))) all-pending
 
-  pub begin-standing : Inside (treeOf s) p → length path ≤ 4095 → length stack ≡ 40 → slashes path < length path
-      → Standing s path stack (walkAt p directory (slashes path))
-  unfolding budget
-  begin-standing inside short forty some = record {
-    resting = record {
-      inside = inside;
-      placed = record {
-        small = lit≤ tt;
-        readable = path-readable (treeOf s);
-        short = rw given short;
-        stands = subst (λ xs. Stands xs (slashes path)) (sym given) (start-stands path);
+  pub begin-ready : Inside (treeOf s) p → length path ≤ 4095 → length stack ≡ 40 → slashes path < length path
+      → Ready s path stack (walkAt p directory (slashes path))
+  begin-ready inside short forty some = record {
+    standing = record {
+      resting = record {
+        placed = record {
+          small = lit≤ tt;
+          readable = path-readable (treeOf s);
+          short = rw given short;
+          stands = subst (λ xs. Stands xs (slashes path)) (sym given) (start-stands path);
+        };
+        few-links = lit≤ tt;
+        few-texts = lit≤ tt;
+        stack-length = forty;
+        each = λ i h. absurd (omega arith);
       };
-      few-links = lit≤ tt;
-      few-texts = lit≤ tt;
-      stack-length = forty;
-      each = λ i h. absurd (omega arith);
-      room = omega (arith, ap length all-pending, components-few givenPath path short);
+      some-left = rw given some;
     };
-    some-left = rw given some;
+    ordered = record {
+      inside = inside;
+      room = record { links-left = lit≤ tt; texts-left = omega (arith, ap length all-pending, components-few givenPath path short) };
+    };
   }
 
   pub begin-ended : slashes path ≡ length path → finish (requestFor s k) (atStart p directory) ≡ answer (restrictionsFor k) (beginAt (requestFor s k) directory path p)
   unfolding beginAt answer
   begin-ended e =
       let none : components givenPath path ≡ [] = left-start givenPath path ∙ ap (left givenPath path) e ∙ left-end givenPath path in
-      sym (ap (λ cs. answer (restrictionsFor k) (walk (requestFor s k) 40 cs (atStart p directory))) none ∙ walk-end (restrictionsFor k) (requestFor s k) 40 (atStart p directory))
+      sym (ap (λ cs. answer (restrictionsFor k) (walk (requestFor s k) 40 cs (atStart p directory))) none ∙ walk-on-with (restrictionsFor k) (requestFor s k) 40 [] (atStart p directory))

@@ -1,5 +1,5 @@
 -- "At most 40 links are followed and at most 83,968 components taken (41 texts of at most 2,048).", whatever the bytes. Assumes nothing.
-use Prim.Native.Nat.{ℕ, zero, suc, _+_, _*_, _≤_}
+use Prim.Native.Nat.{ℕ, zero, suc, _+_, _-_, _*_, _≤_, _<_}
 use mathlib.Core.Bool.{Bool, true, false, not, _&&_, _||_}
 use mathlib.Core.List.{List, [], _∷_, _++_}
 use mathlib.Core.Option.{Option, none, some}
@@ -8,13 +8,13 @@ use native.Mathlib.Omega.{arith}
 use lib.Dec.{lit≤}
 use lib.ListN.{length, length-append}
 use Rattle.model.specs.Bytes.{has}
-use Rattle.model.specs.Tree.{treeOf, isDirectory, isLink}
+use Rattle.model.specs.Tree.{Tree, treeOf, isDirectory, isLink}
 use Rattle.model.specs.Answers.{progressOf, notWalked}
 use Rattle.model.specs.OpenHow.{flagsOf, resolveOf, IN-ROOT, O-DIRECTORY}
 use Rattle.model.specs.Path.{Component, isSlash, consIf, upToSlash, componentsFrom, components, absolute, endsInSlash, givenPath}
 use Rattle.model.specs.Handles.{placeOf}
 use Rattle.model.specs.Trace.{Event, Restrictions, Trace, stop, meet, stand, meets, forbids, refusedBy, answer}
-use Rattle.model.specs.Walk.{Request, rootOf, Landing, outside, target, reading, Step, fail, go, follow, oneComponent, taken, standingOn, followedTo, finish, isEmpty, Follow, land, followOn, followNone, continue, walkPending, walk, beginAt, walkPath}
+use Rattle.model.specs.Walk.{Request, rootOf, Landing, outside, target, reading, Step, fail, go, follow, oneComponent, taken, finish, isEmpty, Turn, refuses, went, followed, Transition, land, transitionBy, transition, turned, walkPending, noneLeft, walk, beginAt, walkPath}
 use Rattle.model.specs.Resolve.{refusedBefore, restrictions, requestOf, traceOf, unlessRefused, resolve}
 use Rattle.model.specs.declared.Place.{Place}
 use Rattle.model.specs.declared.Progress.{Progress}
@@ -24,10 +24,12 @@ use Rattle.model.specs.declared.Refusal.{Refusal}
 use Rattle.model.specs.declared.Errno.{Errno}
 use Rattle.model.specs.declared.Answer.{Answer}
 use Rattle.theorems.specs.Bounded.{Bounded, EveryWalk}
+use Rattle.theorems.specs.Inside.{Inside}
+use Rattle.theorems.specs.Ordered.{Room}
 use Rattle.theorems.proofs.Cases.{cond-cases}
 use Rattle.theorems.specs.Acceptance.{Sound}
 use Rattle.theorems.proofs.Acceptance.{accepted-sound, body-small}
-use Rattle.theorems.proofs.Inside.{Inside, root-inside, LandingInside, StepInside, one-component-inside}
+use Rattle.theorems.proofs.Inside.{root-inside, LandingInside, StepInside, one-component-inside}
 use Rattle.theorems.proofs.Refusals.{unrefused, path-short, handle-inside, Uncounted, before-uncounted}
 
 -- A text has at most one component for each two bytes, and one more where it may begin with one. One byte, by whether it is a slash;
@@ -74,13 +76,8 @@ answer-within R (stop a) w = w
 answer-within R (stand p later) w = answer-within R later w
 answer-within R (meet e p later) w = refused-within (forbids R e) p (answer R later) (w .0) (answer-within R later (w .1))
 
--- the counts of a state with a number of links left and of components pending
-pub record Room (left pending : ℕ) (s : State) : Type 0 where
-  pub links-left : s .progress .links + left ≤ 40
-  pub texts-left : s .progress .components + pending + 2048 * left ≤ 83968
-
-room-bounded : (left pending : ℕ) (s : State) → Room left pending s → Bounded (s .progress)
-room-bounded left pending s r = record { few-links = omega (arith, r .links-left); few-components = omega (arith, r .texts-left) }
+pub room-bounded : (links pending : ℕ) (s : State) → Room links pending s → Bounded (s .progress)
+room-bounded links pending s r = record { few-links = omega (arith, r .links-left); few-components = omega (arith, r .texts-left) }
 
 finish-progress : (a : Request) (s : State) → progressOf (finish a s) ≡ s .progress
 unfolding finish
@@ -89,54 +86,79 @@ finish-progress a s =
     (λ _. refl)
     (λ _. cond-cases (λ (x : Answer). progressOf x ≡ s .progress) (isLink (a .tree) (s .place .node) && not (a .pathOnly)) _ _ (λ _. refl) (λ _. refl))
 
+-- what a component comes to keeps to the tree and to the bounds; a followed link spends one of those left
+abbrev pub TurnOrdered : Tree → ℕ → ℕ → Turn → Type 0
+TurnOrdered t links pending (refuses e s) = Bounded (s .progress)
+TurnOrdered t links pending (went s) = Inside t (s .place) × Room links pending s
+TurnOrdered t links pending (followed cs s) = Inside t (s .place) × Room (links - 1) (length cs) s × (0 < links)
+
+pub record TransitionOrdered (t : Tree) (links pending : ℕ) (x : Transition) : Type 0 where
+  pub met-bounded : Bounded (x .met .progress)
+  pub turn-ordered : TurnOrdered t links pending (x .turn)
+
 module _ (a : Request) (sound : Sound (a .tree)) (root : Inside (a .tree) (a .root)) where
-  -- one step and the rest of the walk, over what is done with a followed link
-  continue-within : (left : ℕ) (f : Follow)
-      → ((es : List Event) (l : Landing) (pending : List Component) (s : State) → LandingInside (a .tree) l → Room left (length pending) s → Within (f es l pending s))
-      → (step : Step) (later : State → Trace) (pending : List Component) (s : State) → StepInside (a .tree) step → Room left (length pending) s
-      → ((p : Place) → Inside (a .tree) p → Within (later (standingOn p s)))
-      → Within (continue f step later pending s)
-  continue-within left f hf (fail e) later pending s i r hl = room-bounded left (length pending) s r
-  continue-within left f hf (go es p) later pending s i r hl = meets-within es (s .progress) _ (room-bounded left (length pending) s r) (hl p i)
-  continue-within left f hf (follow es l) later pending s i r hl = hf es l pending s i r
-
-  pending-within : (left : ℕ) (f : Follow)
-      → ((es : List Event) (l : Landing) (pending : List Component) (s : State) → LandingInside (a .tree) l → Room left (length pending) s → Within (f es l pending s))
-      → (pending : List Component) (s : State) → Inside (a .tree) (s .place) → Room left (length pending) s → Within (walkPending a f pending s)
-  unfolding walkPending
-  pending-within left f hf [] s i r = subst Bounded (sym (finish-progress a s)) (room-bounded left 0 s r)
-  pending-within left f hf (c ∷ pending) s i r =
-      let next : Room left (length pending) (taken s) = record { links-left = r .links-left; texts-left = omega (arith, r .texts-left) } in
-      cond-cases Within (isDirectory (a .tree) (s .place .node)) _ _
-      (λ d. continue-within left f hf (oneComponent a (isEmpty pending) (s .place) (c .bytes)) (walkPending a f pending) pending (taken s)
-      (one-component-inside a sound root (isEmpty pending) (s .place) i d (c .bytes)) next
-      (λ p j. pending-within left f hf pending (standingOn p (taken s)) j (record { links-left = next .links-left; texts-left = next .texts-left })))
-      (λ _. room-bounded left (suc (length pending)) s r)
-
-  -- following a link spends one of those left, and a text of at most 2,048 components
-  land-within : (left : ℕ) (later : List Component → State → Trace)
-      → ((pending : List Component) (s : State) → Inside (a .tree) (s .place) → Room left (length pending) s → Within (later pending s))
-      → (l : Landing) (pending : List Component) (s : State) → LandingInside (a .tree) l → Room (suc left) (length pending) s → Within (land a later l pending s)
-  land-within left later hl outside pending s i r = room-bounded (suc left) (length pending) s r
-  land-within left later hl (target p) pending s i r =
-      hl pending (followedTo p false s) i (record { links-left = omega (arith, r .links-left); texts-left = omega (arith, r .texts-left) })
-  land-within left later hl (reading n p) pending s i r =
+  -- a text has at most 2,048 components
+  land-ordered : (links : ℕ) (l : Landing) (pending : List Component) (s : State) → LandingInside (a .tree) l → Room (suc links) (length pending) s
+      → TurnOrdered (a .tree) (suc links) (length pending) (land a l pending s)
+  land-ordered links outside pending s i r = room-bounded (suc links) (length pending) s r
+  land-ordered links (target p) pending s i r =
+      (i, record { links-left = omega (arith, r .links-left); texts-left = omega (arith, r .texts-left) }, omega arith)
+  land-ordered links (reading n p) pending s i r =
       let body = a .tree .body n in
-      let few = components-few n body (body-small (a .tree) sound n (i .1) (i .2)) in
-      hl (components n body ++ pending) (followedTo p (isEmpty pending && endsInSlash body) s) (i .0)
-      (record {
-        links-left = omega (arith, r .links-left);
-        texts-left = rw (length-append (components n body) pending) (omega (arith, r .texts-left, few));
-      })
+      let few = components-few n body (body-small (a .tree) sound n (i .1) (i .2)) in (
+        i .0,
+        record {
+          links-left = omega (arith, r .links-left);
+          texts-left = rw (length-append (components n body) pending) (omega (arith, r .texts-left, few));
+        },
+        omega arith,
+      )
 
-  pub walk-within : (left : ℕ) (pending : List Component) (s : State) → Inside (a .tree) (s .place) → Room left (length pending) s
-      → Within (walk a left pending s)
-  unfolding walk followNone followOn
-  walk-within zero pending s i r = pending-within zero followNone (λ es l later s′ j q. room-bounded zero (length later) s′ q) pending s i r
-  walk-within (suc left) pending s i r =
-      pending-within (suc left) (followOn a (walk a left))
-      (λ es l later s′ j q. meets-within es (s′ .progress) _ (room-bounded (suc left) (length later) s′ q) (land-within left (walk a left) (walk-within left) l later s′ j q))
-      pending s i r
+  by-ordered : (links : ℕ) (pending : List Component) (s : State) (step : Step) → StepInside (a .tree) step → Room links (length pending) s
+      → TransitionOrdered (a .tree) links (length pending) (transitionBy a links pending s step)
+  by-ordered links pending s (fail e) i r = record { met-bounded = room-bounded links (length pending) s r; turn-ordered = room-bounded links (length pending) s r }
+  by-ordered links pending s (go es p) i r =
+      record { met-bounded = room-bounded links (length pending) s r; turn-ordered = (i, record { links-left = r .links-left; texts-left = r .texts-left }) }
+  by-ordered zero pending s (follow es l) i r = record { met-bounded = room-bounded zero (length pending) s r; turn-ordered = room-bounded zero (length pending) s r }
+  by-ordered (suc links) pending s (follow es l) i r =
+      record { met-bounded = room-bounded (suc links) (length pending) s r; turn-ordered = land-ordered links l pending s i r }
+
+  pub transition-ordered : (links : ℕ) (c : Component) (pending : List Component) (s : State) → Inside (a .tree) (s .place) → Room links (suc (length pending)) s
+      → TransitionOrdered (a .tree) links (length pending) (transition a links c pending s)
+  unfolding transition
+  transition-ordered links c pending s i r =
+      let next : Room links (length pending) (taken s) = record { links-left = r .links-left; texts-left = omega (arith, r .texts-left) } in
+      cond-cases (TransitionOrdered (a .tree) links (length pending)) (isDirectory (a .tree) (s .place .node)) _ _
+      (λ d. by-ordered links pending (taken s) (oneComponent a (isEmpty pending) (s .place) (c .bytes))
+      (one-component-inside a sound root (isEmpty pending) (s .place) i d (c .bytes)) next)
+      (λ _. record { met-bounded = room-bounded links (suc (length pending)) s r; turn-ordered = room-bounded links (suc (length pending)) s r })
+
+  turned-within : (links pending : ℕ) (on : State → Trace) (later : List Component → State → Trace)
+      → ((s : State) → Inside (a .tree) (s .place) → Room links pending s → Within (on s))
+      → ((cs : List Component) (s : State) → Inside (a .tree) (s .place) → Room (links - 1) (length cs) s → Within (later cs s))
+      → (t : Turn) → TurnOrdered (a .tree) links pending t → Within (turned on later t)
+  turned-within links pending on later ho hl (refuses e s) o = o
+  turned-within links pending on later ho hl (went s) o = ho s (o .0) (o .1)
+  turned-within links pending on later ho hl (followed cs s) o = hl cs s (o .0) (o .1)
+
+  pending-within : (links : ℕ) (later : List Component → State → Trace)
+      → ((cs : List Component) (s : State) → Inside (a .tree) (s .place) → Room (links - 1) (length cs) s → Within (later cs s))
+      → (pending : List Component) (s : State) → Inside (a .tree) (s .place) → Room links (length pending) s → Within (walkPending a links later pending s)
+  unfolding walkPending
+  pending-within links later hl [] s i r = subst Bounded (sym (finish-progress a s)) (room-bounded links 0 s r)
+  pending-within links later hl (c ∷ pending) s i r =
+      let t = transition a links c pending s in
+      let o = transition-ordered links c pending s i r in
+      meets-within (t .events) (t .met .progress) _ (o .met-bounded)
+      (turned-within links (length pending) (walkPending a links later pending) later (pending-within links later hl pending) hl (t .turn) (o .turn-ordered))
+
+  pub walk-within : (links : ℕ) (pending : List Component) (s : State) → Inside (a .tree) (s .place) → Room links (length pending) s
+      → Within (walk a links pending s)
+  unfolding walk
+  walk-within zero pending s i r = pending-within zero noneLeft (λ cs s′ j q. room-bounded zero (length cs) s′ q) pending s i r
+  walk-within (suc links) pending s i r =
+      let e : suc links - 1 ≡ links = omega arith in
+      pending-within (suc links) (walk a links) (λ cs s′ j q. walk-within links cs s′ j (subst (λ (n : ℕ). Room n (length cs) s′) e q)) pending s i r
 
   begin-within : (directory : Bool) (path : List ℕ) (p : Place) → length path ≤ 4095 → Inside (a .tree) p → Within (beginAt a directory path p)
   unfolding beginAt

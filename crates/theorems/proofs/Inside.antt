@@ -14,13 +14,9 @@ use Rattle.model.specs.Path.{absolute}
 use Rattle.model.specs.Trace.{Event, Escape}
 use Rattle.model.specs.declared.Place.{Place}
 use Rattle.theorems.specs.Acceptance.{Sound}
+pub use Rattle.theorems.specs.Inside.{Inside}
 use Rattle.theorems.proofs.Acceptance.{directory-below, parent-directory, lookup-inside, entry-facts, root-directory, point-directory, mount-parent-below, mount-on-below, target-inside}
 use Rattle.theorems.proofs.Cases.{both, first-of, cond-cases}
-
--- a mount and a node of the tree
-pub record Inside (t : Tree) (p : Place) : Type 0 where
-  pub mount-below : p .mount < t .mounts
-  pub node-below : p .node < t .nodes
 
 module _ (t : Tree) (sound : Sound t) where
   pub root-inside : (m : ℕ) → m < t .mounts → Inside t (rootOf t m)

@@ -12,3 +12,4 @@ pub mod Refusals
 pub mod OnlyStops
 pub mod Demand3
 pub mod Bounds
+pub mod Steps

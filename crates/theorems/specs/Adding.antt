@@ -8,7 +8,7 @@ use mathlib.Core.Path.{_≡_}
 use lib.Bits.{bitOr}
 use lib.ListN.{length, getD, set}
 use lib.Dec.{ltb}
-use Rattle.model.specs.Bytes.{has, isSome}
+use Rattle.model.specs.Bytes.{has, isSome, unless}
 use Rattle.model.specs.Tree.{treeOf}
 use Rattle.model.specs.TableCheck.{tableCheck}
 use Rattle.model.specs.OpenHow.{resolveOf, NO-XDEV, NO-MAGICLINKS, NO-SYMLINKS, BENEATH, IN-ROOT}
@@ -61,15 +61,11 @@ meetings R (stop a) = []
 meetings R (stand p later) = meetings R later
 meetings R (meet e p later) = onward (forbids R e) (e, p) (meetings R later)
 
-abbrev pub unlessBefore : Option Refusal → List Meeting → List Meeting
-unlessBefore none ms = ms
-unlessBefore (some r) ms = []
-
 -- "The events are those that the walk above meets on the first call's input, in the order met; a call refused before the walk
 -- meets none."
 unfoldable pub eventsOf : List ℕ → Handle → List ℕ → List ℕ → List Meeting
 eventsOf image h path how =
-    unlessBefore (refusedBefore image h path how) (meetings (restrictions h how) (traceOf image h path how))
+    unless (refusedBefore image h path how) (meetings (restrictions h how) (traceOf image h path how))
 
 -- "the first event of that walk that an added one forbids"
 unfoldable pub firstForbidden : Restrictions → List Meeting → Option Meeting

@@ -2,3 +2,5 @@
 pub mod Acceptance
 pub mod Adding
 pub mod Bounded
+pub mod Inside
+pub mod Ordered

@@ -1,4 +1,6 @@
-pub mod WalkLaws
+mod WalkLaws
 mod PendingLaws
 mod OpenLaws
 mod StepLaws
+mod RunLaws
+pub mod UniqueLaws

@@ -1,39 +1,35 @@
 -- The open texts as the code keeps them: what is pending, and what a step of the code makes of it. Assumes nothing.
-use Prim.Native.Nat.{ℕ, zero, suc, _+_, _*_, _/_, _%_, _≤_, _<_}
-use mathlib.Core.Bool.{false, _&&_}
+use Prim.Native.Nat.{ℕ, zero, suc, _+_, _-_, _*_, _/_, _%_, _≤_, _<_}
+use mathlib.Core.Bool.{Bool, true, false, _&&_}
 use mathlib.Core.List.{List, [], _∷_, _++_}
 use mathlib.Core.Logic.{⊎-elim}
 use mathlib.Core.Path.{_≡_, refl, sym, ap, ap₂, _∙_, subst}
 use native.Mathlib.Nat.{le-refl, eq-or-lt-of-le}
 use native.Mathlib.Numerals.{add-one}
 use native.Mathlib.Omega.{arith}
-use borrow.Author.Tests.{ne-eqb}
+use borrow.Author.Tests.{eq-eqb, ne-eqb, eqb-true, eqb-false}
 use lib.Dec.{eqb}
 use lib.ListN.{length, getD, set, length-set}
 use lib.Seq.{getD-set-same, getD-set-other}
 use Rattle.model.specs.Tree.{Tree, treeOf}
 use Rattle.model.specs.Path.{Component}
-use Rattle.model.specs.Trace.{answer}
-use Rattle.model.specs.Walk.{finish, isEmpty, walk}
-use Rattle.model.specs.declared.Answer.{Answer}
+use Rattle.model.specs.Walk.{isEmpty}
+use Rattle.model.specs.Step.{Onward, onWith}
 use Rattle.model.specs.declared.State.{State}
-use Rattle.text.specs.Positions.{left}
+use Rattle.theorems.proofs.Steps.{on-with-more, on-with-done}
 use Rattle.text.specs.Texts.{textOf}
 use Rattle.text.proofs.Components.{left-empty, left-end}
-use Rattle.component.specs.Outcomes.{requestFor, restrictionsFor}
-use Rattle.component.specs.declared.Ask.{Ask}
-use Rattle.walk.specs.Open.{leftIn, suspended, pending, linksLeft, rest, budget, Placed, Suspended, Resting, Leads, Entered}
+use Rattle.walk.specs.Open.{leftIn, suspended, pending, linksLeft, Placed, Suspended, Resting, Standing, Leads, Advanced, Entered}
 use Rattle.walk.specs.declared.Walk.{Walk}
 use Rattle.walk.specs.declared.Next.{Next}
-use Rattle.walk.specs.declared.Next.the-variants.{More, Done, Failed}
-use Rattle.walk.proofs.WalkLaws.{walk-end}
+use Rattle.walk.specs.declared.Next.the-variants.{More, Done}
 
-pub is-empty-append : (xs ys : List Component) → isEmpty (xs ++ ys) ≡ (isEmpty xs && isEmpty ys)
+is-empty-append : (xs ys : List Component) → isEmpty (xs ++ ys) ≡ (isEmpty xs && isEmpty ys)
 is-empty-append [] ys = refl
 is-empty-append (x ∷ xs) ys = refl
 
 -- every suspended text has a component left
-suspended-empty : (t : Tree) (path stack : List ℕ) (d : ℕ) → ((i : ℕ) → i < d → Suspended t path (getD stack i 0))
+pub suspended-empty : (t : Tree) (path stack : List ℕ) (d : ℕ) → ((i : ℕ) → i < d → Suspended t path (getD stack i 0))
     → isEmpty (suspended t path stack d) ≡ eqb d 0
 unfolding suspended
 suspended-empty t path stack zero each = refl
@@ -44,14 +40,18 @@ suspended-empty t path stack (suc d) each =
     left-empty (textOf t path (v / 4096)) (v % 4096) (u .placed .stands) (v / 4096) ∙ ne-eqb (v % 4096) (length (textOf t path (v / 4096))) (λ q. omega (arith, u .some-left)) in
     is-empty-append (leftIn t path (v / 4096) (v % 4096)) (suspended t path stack d) ∙ rw (e, ne-eqb (suc d) 0 (λ q. omega arith))
 
-pub suspended-ext : (t : Tree) (path stack after : List ℕ) (d : ℕ) → ((i : ℕ) → i < d → getD after i 0 ≡ getD stack i 0)
+suspended-ext : (t : Tree) (path stack after : List ℕ) (d : ℕ) → ((i : ℕ) → i < d → getD after i 0 ≡ getD stack i 0)
     → suspended t path after d ≡ suspended t path stack d
 unfolding suspended
 suspended-ext t path stack after zero same = refl
 suspended-ext t path stack after (suc d) same =
     ap₂ _++_ (ap (λ (v : ℕ). leftIn t path (v / 4096) (v % 4096)) (same d (le-refl (suc d)))) (suspended-ext t path stack after d (λ i h. same i (omega arith)))
 
-module _ (s path stack : List ℕ) (w : Walk) (r : Resting s path stack w) where
+-- a result that leads to one of two equals leads to the other
+pub leads-to : {s path stack : List ℕ} {a b : Onward} {r : Next} → Leads s path stack a r → a ≡ b → Leads s path stack b r
+leads-to l e = record { stands = l .stands ∙ e; held = l .held }
+
+module _ {s path stack : List ℕ} {w : Walk} (r : Resting s path stack w) where
   -- nothing is pending where the text has ended and none is suspended
   pub pending-empty : isEmpty (pending (treeOf s) path stack w) ≡ (eqb (w .at) (length (textOf (treeOf s) path (w .text))) && eqb (w .depth) 0)
   pending-empty =
@@ -63,58 +63,54 @@ module _ (s path stack : List ℕ) (w : Walk) (r : Resting s path stack w) where
   pending-ended e =
       ap (λ xs. xs ++ suspended (treeOf s) path stack (w .depth)) (ap (leftIn (treeOf s) path (w .text)) e ∙ left-end (w .text) (textOf (treeOf s) path (w .text)))
 
-module _ (s path stack : List ℕ) (k : Ask) (w : Walk) (r : Resting s path stack w) where
-  pub leads-here : w .at < length (textOf (treeOf s) path (w .text)) → Leads s k path stack (rest s k path stack w) (budget s path stack w) (More w)
-  leads-here h = (record { resting = r; some-left = h }, refl, le-refl (budget s path stack w))
+-- a walk that stands at a component goes on from there
+pub goes-on : {s path stack : List ℕ} {w : Walk} → Standing s path stack w → (links : ℕ) (xs : List Component)
+    → linksLeft (w .state) ≡ links → pending (treeOf s) path stack w ≡ xs → Leads s path stack (onWith links xs (w .state)) (More w)
+goes-on {s} {path} {stack} {w} h links xs few same =
+    let some : isEmpty (pending (treeOf s) path stack w) ≡ false =
+    pending-empty (h .resting) ∙ ap (λ b. b && eqb (w .depth) 0) (ne-eqb (w .at) (length (textOf (treeOf s) path (w .text))) (λ q. omega (arith, h .some-left))) in
+    record { stands = sym (on-with-more _ _ _ some) ∙ ap₂ (λ n ys. onWith n ys (w .state)) few same; held = h }
 
-  pub leads-end : w .at ≡ length (textOf (treeOf s) path (w .text)) → w .depth ≡ 0 → finish (requestFor s k) (w .state) ≡ rest s k path stack w
-  unfolding rest suspended
-  leads-end e z =
-      let nil : pending (treeOf s) path stack w ≡ [] = pending-ended s path stack w r e ∙ ap (suspended (treeOf s) path stack) z in
-      sym (ap (λ cs. answer (restrictionsFor k) (walk (requestFor s k) (linksLeft (w .state)) cs (w .state))) nil ∙ walk-end (restrictionsFor k) (requestFor s k) (linksLeft (w .state)) (w .state))
+module _ {s path stack : List ℕ} {w : Walk} (r : Resting s path stack w) where
+  pub advanced-here : w .at < length (textOf (treeOf s) path (w .text)) → Advanced s path stack w (More w)
+  advanced-here h = goes-on (record { resting = r; some-left = h }) _ _ refl refl
+
+  pub advanced-end : w .at ≡ length (textOf (treeOf s) path (w .text)) → w .depth ≡ 0 → Advanced s path stack w (Done (w .state))
+  advanced-end e z =
+      let none : isEmpty (pending (treeOf s) path stack w) ≡ true = pending-empty r ∙ ap₂ _&&_ (eq-eqb _ _ e) (eq-eqb _ _ z) in
+      record { stands = sym (on-with-done (linksLeft (w .state)) (pending (treeOf s) path stack w) (w .state) none); held = tt }
 
   -- back in the text suspended last
-  pub leads-back : (d : ℕ) → w .at ≡ length (textOf (treeOf s) path (w .text)) → w .depth ≡ suc d
-      → Leads s k path stack (rest s k path stack w) (budget s path stack w) (More (record { state = w .state; text = getD stack d 0 / 4096; at = getD stack d 0 % 4096; depth = d }))
-  unfolding rest budget suspended
-  leads-back d e z =
-      let v = getD stack d 0 in
-      let same : pending (treeOf s) path stack w ≡ leftIn (treeOf s) path (v / 4096) (v % 4096) ++ suspended (treeOf s) path stack d = pending-ended s path stack w r e ∙ ap (suspended (treeOf s) path stack) z in
-      let u = r .each d (omega arith) in (
-        record {
-          resting = record {
-            inside = r .inside;
-            placed = u .placed;
-            few-links = r .few-links;
-            few-texts = omega (arith, r .few-texts);
-            stack-length = r .stack-length;
-            each = λ i h. r .each i (omega arith);
-            room = omega (arith, r .room, ap length same);
-          };
-          some-left = u .some-left;
-        },
-        ap (λ cs. answer (restrictionsFor k) (walk (requestFor s k) (linksLeft (w .state)) cs (w .state))) (sym same),
-        omega (arith, ap length same),
-      )
-
--- a step that leads to one answer leads to its equals, within more
-pub leads-same : (s : List ℕ) (k : Ask) (path stack : List ℕ) (a b : Answer) (m n : ℕ) (x : Next) → a ≡ b → m ≤ n → Leads s k path stack a m x → Leads s k path stack b n x
-leads-same s k path stack a b m n (More w) e h l = (l .0, l .1 ∙ e, omega (arith, l .2))
-leads-same s k path stack a b m n (Done w) e h l = (l .0, l .1 ∙ e)
-leads-same s k path stack a b m n (Failed w c) e h l = l ∙ e
+  pub advanced-back : (d : ℕ) → w .at ≡ length (textOf (treeOf s) path (w .text)) → w .depth ≡ suc d
+      → Advanced s path stack w (More (record { state = w .state; text = getD stack d 0 / 4096; at = getD stack d 0 % 4096; depth = d }))
+  unfolding suspended
+  advanced-back d e z =
+      let u = r .each d (omega arith) in
+      goes-on
+      (record {
+        resting = record {
+          placed = u .placed;
+          few-links = r .few-links;
+          few-texts = omega (arith, r .few-texts);
+          stack-length = r .stack-length;
+          each = λ i h. r .each i (omega arith);
+        };
+        some-left = u .some-left;
+      })
+      (linksLeft (w .state)) (pending (treeOf s) path stack w) refl (sym (pending-ended r e ∙ ap (suspended (treeOf s) path stack) z))
 
 -- the present text is suspended, and another one is read
-module _ (s path stack : List ℕ) (w : Walk) (r : Resting s path stack w) (room : w .depth < 40) (state : State) (n start : ℕ) where
+module _ {s path stack : List ℕ} {w : Walk} (r : Resting s path stack w) (room : w .depth < 40) (state : State) (n start : ℕ) where
   packed-text : (w .text * 4096 + w .at) / 4096 ≡ w .text
   packed-text = omega (arith, r .placed .short, r .placed .stands .within)
 
   packed-at : (w .text * 4096 + w .at) % 4096 ≡ w .at
   packed-at = omega (arith, r .placed .short, r .placed .stands .within)
 
-  pub pushed-same : (i : ℕ) → i < w .depth → getD (set stack (w .depth) (w .text * 4096 + w .at)) i 0 ≡ getD stack i 0
+  pushed-same : (i : ℕ) → i < w .depth → getD (set stack (w .depth) (w .text * 4096 + w .at)) i 0 ≡ getD stack i 0
   pushed-same i h = getD-set-other stack (w .depth) i (w .text * 4096 + w .at) 0 (λ e. omega arith)
 
-  pub pushed-top : getD (set stack (w .depth) (w .text * 4096 + w .at)) (w .depth) 0 ≡ w .text * 4096 + w .at
+  pushed-top : getD (set stack (w .depth) (w .text * 4096 + w .at)) (w .depth) 0 ≡ w .text * 4096 + w .at
   pushed-top = getD-set-same stack (w .depth) (w .text * 4096 + w .at) 0 (omega (arith, r .stack-length))
 
   here-suspended : w .at < length (textOf (treeOf s) path (w .text)) → Suspended (treeOf s) path (w .text * 4096 + w .at)
@@ -140,7 +136,8 @@ module _ (s path stack : List ℕ) (w : Walk) (r : Resting s path stack w) (room
         (eq-or-lt-of-le {n = i} {m = w .depth} (omega arith));
   }
     where
-      top : leftIn (treeOf s) path (getD (set stack (w .depth) (w .text * 4096 + w .at)) (w .depth) 0 / 4096) (getD (set stack (w .depth) (w .text * 4096 + w .at)) (w .depth) 0 % 4096) ≡ leftIn (treeOf s) path (w .text) (w .at)
+      top : leftIn (treeOf s) path (getD (set stack (w .depth) (w .text * 4096 + w .at)) (w .depth) 0 / 4096)
+          (getD (set stack (w .depth) (w .text * 4096 + w .at)) (w .depth) 0 % 4096) ≡ leftIn (treeOf s) path (w .text) (w .at)
       top = rw (pushed-top, packed-text, packed-at)
 
   pub entered-ended : w .at ≡ length (textOf (treeOf s) path (w .text))
@@ -151,6 +148,14 @@ module _ (s path stack : List ℕ) (w : Walk) (r : Resting s path stack w) (room
     at-is = refl;
     depth-few = omega arith;
     same-length = refl;
-    behind = sym (pending-ended s path stack w r e);
+    behind = sym (pending-ended r e);
     each = r .each;
   }
+
+-- what `at_end` tells of a text
+pub ended : (x : List ℕ) (at : ℕ) {b : Bool} {y : List ℕ} → b ≡ eqb at (length x) → x ≡ y → b ≡ true → at ≡ length y
+ended x at e t h = eqb-true at (length x) (sym e ∙ h) ∙ ap length t
+
+pub unended : (x : List ℕ) (at : ℕ) {b : Bool} {y : List ℕ} → b ≡ eqb at (length x) → x ≡ y → b ≡ false → at ≤ length y → at < length y
+unended x at {b} {y} e t h within =
+    ⊎-elim (λ (q : at ≡ length y). absurd (eqb-false at (length x) (sym e ∙ h) (q ∙ sym (ap length t)))) (λ (l : at < length y). l) (eq-or-lt-of-le within)

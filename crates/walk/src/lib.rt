@@ -9,6 +9,7 @@ use model::Answer;
 use model::Errno;
 use model::Place;
 use model::State;
+use reader::at_end;
 use reader::next_component;
 use state::finish;
 use state::followed_to;
@@ -28,7 +29,7 @@ ghost use Rattle.model.specs.Tree.{treeOf};
 ghost use Rattle.model.specs.Walk.{isEmpty};
 ghost use Rattle.component.specs.Walking.{Walking};
 ghost use Rattle.image.specs.Counts.{Counted};
-ghost use Rattle.walk.specs.Open.{pending, rest, budget, Resting, Standing, Leads, Advanced, OutcomeInside, proceed, Entered, Stepped};
+ghost use Rattle.walk.specs.Open.{pending, rest, Resting, Ready, Leads, Advanced, OutcomeInside, proceed, Entered, Stepped};
 
 // A walk between two components: its state, the text that it reads and where in it, and how many texts are suspended behind that.
 pub struct Walk {
@@ -38,12 +39,12 @@ pub struct Walk {
     pub depth: usize,
 }
 
-// The next state, or the end: every component taken, or an error at the state that the walk was left in. Each case holds a whole
-// state, so that the compiler keeps it in registers from one component to the next.
+// The next state, or the end: every component taken, or an error in a state. Each case holds a whole state in the same place, so that
+// the compiler keeps it in registers from one component to the next.
 pub enum Next {
     More(Walk),
-    Done(Walk),
-    Failed(Walk, Errno),
+    Done(State),
+    Failed(Errno, State),
 }
 
 // After a component: on in the same text, back in the one suspended last, or at the end. A suspended text has a component left, so
@@ -54,13 +55,13 @@ fn advance<'a>(image: &'a [u8], c: Counts, path: &'a [u8], stack: &[u32], w: Wal
 {
     let depth = w.depth;
     let here = text_of(image, c, path, w.text);
-    if w.at < here.len() {
+    if !at_end(here, w.at) {
         return Next::More(w);
     }
-    if depth == 0 {
-        return Next::Done(w);
-    }
     let state = w.state;
+    if depth == 0 {
+        return Next::Done(state);
+    }
     let v = stack[depth - 1] as usize;
     Next::More(Walk {
         state,
@@ -97,7 +98,7 @@ fn enter_body<'a>(
     let text = w.text;
     let at = w.at;
     let here = text_of(image, c, path, text);
-    if at < here.len() {
+    if !at_end(here, at) {
         stack[depth] = (text * 4096 + at) as u32;
         return Walk {
             state: s,
@@ -115,7 +116,7 @@ fn enter_body<'a>(
 }
 
 // Reads the body of a symbolic link from a place. A body of slashes alone has no component: the walk goes on behind the link.
-fn open<'a>(
+fn read_body<'a>(
     image: &'a [u8],
     c: Counts,
     k: Ask,
@@ -127,11 +128,11 @@ fn open<'a>(
     p: Place,
 ) -> Next
     requires { ⌜ Walking (now image) c k × Resting (now image) (now path) (now stack) w × OutcomeInside (treeOf (now image)) (w .state .progress .links) (Outcome.Read n p) × (last ≡ isEmpty (pending (treeOf (now image)) (now path) (now stack) w)) ⌝ }
-    ensures { λ r. ⌜ Leads (now (image .entry)) k (now (path .entry)) (now (stack .exit)) (proceed (now (image .entry)) k (now (path .entry)) (now (stack .entry)) w (Outcome.Read n p)) (budget (now (image .entry)) (now (path .entry)) (now (stack .entry)) w) r × (length (now (stack .exit)) ≡ length (now (stack .entry))) ⌝ }
+    ensures { λ r. ⌜ Leads (now (image .entry)) (now (path .entry)) (now (stack .exit)) (proceed (now (image .entry)) (now (path .entry)) (now (stack .entry)) w (Outcome.Read n p)) r × (length (now (stack .exit)) ≡ length (now (stack .entry))) ⌝ }
 {
     let text = body(image, c, n);
-    let state = followed_to(p, both(last, ends_in_slash(text)), w.state);
     let start = skip_slashes(text, 0);
+    let state = followed_to(p, both(last, ends_in_slash(text)), w.state);
     if start == text.len() {
         let at = w.at;
         let behind = Walk {
@@ -157,11 +158,11 @@ fn proceed<'a>(
     o: Outcome,
 ) -> Next
     requires { ⌜ Walking (now image) c k × Resting (now image) (now path) (now stack) w × OutcomeInside (treeOf (now image)) (w .state .progress .links) o × (last ≡ isEmpty (pending (treeOf (now image)) (now path) (now stack) w)) ⌝ }
-    ensures { λ r. ⌜ Leads (now (image .entry)) k (now (path .entry)) (now (stack .exit)) (proceed (now (image .entry)) k (now (path .entry)) (now (stack .entry)) w o) (budget (now (image .entry)) (now (path .entry)) (now (stack .entry)) w) r × (length (now (stack .exit)) ≡ length (now (stack .entry))) ⌝ }
+    ensures { λ r. ⌜ Leads (now (image .entry)) (now (path .entry)) (now (stack .exit)) (proceed (now (image .entry)) (now (path .entry)) (now (stack .entry)) w o) r × (length (now (stack .exit)) ≡ length (now (stack .entry))) ⌝ }
 {
     let state = w.state;
     match o {
-        Outcome::Stop(errno) => Next::Failed(w, errno),
+        Outcome::Stop(errno) => Next::Failed(errno, state),
         Outcome::Go(p) => {
             let on = Walk {
                 state: standing_on(p, state),
@@ -180,22 +181,23 @@ fn proceed<'a>(
             };
             advance(image, c, path, stack, on)
         }
-        Outcome::Read(n, p) => open(image, c, k, path, stack, w, last, n, p),
+        Outcome::Read(n, p) => read_body(image, c, k, path, stack, w, last, n, p),
     }
 }
 
-// A component is last if its own text has ended behind it and no text is suspended.
-fn is_last(next: usize, end: usize, depth: usize) -> bool
-    ensures { λ r. ⌜ r ≡ eqb next end && eqb depth 0 ⌝ }
+// Whether a node of a kind names others: a directory does; a file and a link don't, and an accepted table has no other kind.
+fn names(kind: usize) -> bool
+    ensures { λ r. ⌜ r ≡ eqb kind 1 ⌝ }
 {
-    if next != end {
-        return false;
+    match kind {
+        1 => true,
+        2 | 3 | 4 => false,
+        _ => false,
     }
-    depth == 0
 }
 
 impl Walk {
-    // One component.
+    // One component: what the result stands for is the definitions' step of what the walk stood for.
     pub fn step<'a>(
         self,
         image: &'a [u8],
@@ -204,21 +206,21 @@ impl Walk {
         path: &'a [u8],
         stack: &mut [u32],
     ) -> Next
-        requires { ⌜ Walking (now image) c k × Standing (now image) (now path) (now stack) self ⌝ }
+        requires { ⌜ Walking (now image) c k × Ready (now image) (now path) (now stack) self ⌝ }
         ensures { λ r. ⌜ Stepped (now (image .entry)) k (now (path .entry)) (now (stack .entry)) self (now (stack .exit)) r ⌝ }
     {
         let state = self.state;
         let place = state.place;
         let progress = state.progress;
-        if node_kind(image, place.node) != 1 {
-            return Next::Failed(self, Errno::Enotdir);
+        if !names(node_kind(image, place.node)) {
+            return Next::Failed(Errno::Enotdir, state);
         }
         let at = self.at;
         let depth = self.depth;
         let here = text_of(image, c, path, self.text);
         let span = next_component(here, at);
         let next = span.next;
-        let last = is_last(next, here.len(), depth);
+        let last = both(at_end(here, next), depth == 0);
         let name = name_of(image, c, path, self.text, at, span.end);
         let o = take_component(image, c, k, last, progress.links, place, name);
         let behind = Walk {
@@ -231,7 +233,7 @@ impl Walk {
     }
 }
 
-// All components, one after the other.
+// All components, one after the other. What the stack holds at the end is left free: it is the walk's own, and no answer shows it.
 pub fn run<'a>(
     image: &'a [u8],
     c: Counts,
@@ -240,7 +242,7 @@ pub fn run<'a>(
     w: Walk,
     stack: &mut [u32],
 ) -> Answer
-    requires { ⌜ Walking (now image) c k × Standing (now image) (now path) (now stack) w ⌝ }
+    requires { ⌜ Walking (now image) c k × Ready (now image) (now path) (now stack) w ⌝ }
     ensures { λ r. ⌜ r ≡ rest (now (image .entry)) k (now (path .entry)) (now (stack .entry)) w ⌝ }
 {
     let mut at = w;
@@ -251,11 +253,10 @@ pub fn run<'a>(
                 at = on;
             }
             Next::Done(end) => {
-                return finish(image, c, k, end.state);
+                return finish(image, c, k, end);
             }
-            Next::Failed(end, errno) => {
-                let state = end.state;
-                return refuse(errno, state.progress);
+            Next::Failed(errno, end) => {
+                return refuse(errno, end.progress);
             }
         }
     }

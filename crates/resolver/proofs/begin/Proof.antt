@@ -5,8 +5,8 @@ use native.Mathlib.Omega.{arith}
 use denote.Ref.{now}
 use Rattle.text.specs.Positions.{slashes}
 use Rattle.text.proofs.Components.{start-past, past-within}
-use Rattle.walk.specs.Open.{rest, Standing}
-use Rattle.resolver.proofs.BeginLaws.{walkAt, begin-ended, begin-standing, begin-rest}
+use Rattle.walk.specs.Open.{rest, Ready}
+use Rattle.resolver.proofs.BeginLaws.{walkAt, begin-ended, begin-ready, begin-rest}
 use Rattle.resolver.proofs.begin.Statement.{statement}
 use Rattle.resolver.proofs.begin.Tie as tie
 
@@ -30,7 +30,7 @@ run-requires c κs =
     let a = c .before .before .before .before .before .args in
     let path = now (a .path) in
     let e : c .before .before .skip-slashes .result ≡ slashes path = c .before .before .skip-slashes .ensures ∙ start-past path in
-    (c .before .before .before .before .before .pre .0, subst (λ m. Standing (now (a .image)) path _ (walkAt (a .p) (a .directory) m)) (sym e) (begin-standing (now (a .image)) path _ (a .k) (a .p) (a .directory) (c .before .before .before .before .before .pre .1) (c .before .before .before .before .before .pre .2) refl (omega (arith, e, start-past path, past-within path 0 (omega arith), c .before .if1 .left))))
+    (c .before .before .before .before .before .pre .0, subst (λ m. Ready (now (a .image)) path _ (walkAt (a .p) (a .directory) m)) (sym e) (begin-ready (now (a .image)) path _ (a .k) (a .p) (a .directory) (c .before .before .before .before .before .pre .1) (c .before .before .before .before .before .pre .2) refl (omega (arith, e, start-past path, past-within path 0 (omega arith), c .before .if1 .left))))
 
 returns-2 : tie.Need-returns-2
 returns-2 c =

@@ -3,22 +3,35 @@ use borrow.Author.Needs.{needs}
 use Prim.Native.Nat.{_-_}
 use mathlib.Core.Path.{ap}
 use native.Mathlib.Omega.{arith}
+use borrow.Author.Tests.{not-true, not-false}
 use lib.ListN.{length}
 use denote.Ref.{now}
-use Rattle.walk.proofs.PendingLaws.{leads-here, leads-end, leads-back}
+use Rattle.walk.proofs.PendingLaws.{ended, unended, advanced-here, advanced-end, advanced-back}
 use Rattle.walk.proofs.advance.Statement.{statement}
 use Rattle.walk.proofs.advance.Tie as tie
 
 text-of-requires : tie.Need-text-of-requires
-text-of-requires c κs = (c .before .before .before .pre .0, c .before .before .before .pre .1 .placed .readable)
+text-of-requires c κs =
+    let pre = c .before .before .before .pre in
+    (pre .0, pre .1 .placed .readable)
+
+at-end-requires : tie.Need-at-end-requires
+at-end-requires c κs = omega (arith, ap length (c .text-of .ensures), c .before .before .before .before .pre .1 .placed .stands .within)
 
 returns : tie.Need-returns
-returns c k = let a = c .before .before .before .before .before .before .args in leads-here (now (a .image)) (now (a .path)) (now (a .stack)) k (a .w) (c .before .before .before .before .before .before .pre .1) (omega (arith, ap length (c .before .before .text-of .ensures)))
+returns c =
+    let pre = c .before .before .before .before .before .before .pre in
+    let text-of = c .before .before .text-of in
+    let at-end = c .before .at-end in
+    advanced-here (pre .1) (unended _ _ (at-end .ensures) (text-of .ensures) (not-true _ (c .if1 .taken)) (pre .1 .placed .stands .within))
 
 returns-2 : tie.Need-returns-2
-returns-2 c k =
-    let a = c .before .before .before .before .before .before .before .args in
-    (c .before .before .before .before .before .before .before .pre .1 .inside, leads-end (now (a .image)) (now (a .path)) (now (a .stack)) k (a .w) (c .before .before .before .before .before .before .before .pre .1) (omega (arith, ap length (c .before .before .before .text-of .ensures), c .before .before .before .before .before .before .before .pre .1 .placed .stands .within)) (c .if2 .taken))
+returns-2 c =
+    let pre = c .before .before .before .before .before .before .before .before .pre in
+    let text-of = c .before .before .before .before .text-of in
+    let at-end = c .before .before .before .at-end in
+    let if1 = c .before .before .if1 in
+    advanced-end (pre .1) (ended _ _ (at-end .ensures) (text-of .ensures) (not-false _ (if1 .left))) (c .if2 .taken)
 
 sub-v : tie.Need-sub-v
 sub-v c = omega arith
@@ -27,29 +40,38 @@ mul-v : tie.Need-mul-v
 mul-v c = search needs
 
 shared-slice-read-v : tie.Need-shared-slice-read-v
-shared-slice-read-v c = omega (arith, c .before .before .before .before .before .before .before .before .before .pre .1 .few-texts, c .before .before .before .before .before .before .before .before .before .pre .1 .few-links, c .before .before .before .before .before .before .before .before .before .pre .1 .stack-length)
+shared-slice-read-v c =
+    let pre = c .before .before .before .before .before .before .before .before .before .pre in
+    omega (arith, pre .1 .few-texts, pre .1 .few-links, pre .1 .stack-length)
 
 cast-v : tie.Need-cast-v
-cast-v c = omega (arith, c .shared-slice-known4 .given (c .before .before .before .before .before .before .before .before .before .args .w .depth - 1))
+cast-v c =
+    let args = c .before .before .before .before .before .before .before .before .before .args in
+    omega (arith, c .shared-slice-known4 .given (args .w .depth - 1))
 
-sub-t15 : tie.Need-sub-t15
-sub-t15 c = search needs
+sub-t16 : tie.Need-sub-t16
+sub-t16 c = search needs
 
 returns-3 : tie.Need-returns-3
-returns-3 c k =
-    let a = c .before .before .before .before .before .before .before .before .before .args in
-    leads-back (now (a .image)) (now (a .path)) (now (a .stack)) k (a .w) (c .before .before .before .before .before .before .before .before .before .pre .1) (a .w .depth - 1) (omega (arith, ap length (c .before .before .before .before .before .text-of .ensures), c .before .before .before .before .before .before .before .before .before .pre .1 .placed .stands .within)) (omega arith)
+returns-3 c =
+    let args = c .before .before .before .before .before .before .before .before .before .args in
+    let pre = c .before .before .before .before .before .before .before .before .before .pre in
+    let text-of = c .before .before .before .before .before .text-of in
+    let at-end = c .before .before .before .before .at-end in
+    let if1 = c .before .before .before .if1 in
+    advanced-back (pre .1) (args .w .depth - 1) (ended _ _ (at-end .ensures) (text-of .ensures) (not-false _ (if1 .left))) (omega arith)
 
 pub advance-spec : {M : Type 1} → statement M
 advance-spec =
     tie.close
     (tie.spec
     text-of-requires
+    at-end-requires
     returns
     returns-2
     sub-v
     mul-v
     shared-slice-read-v
     cast-v
-    sub-t15
+    sub-t16
     returns-3)

@@ -2,14 +2,17 @@
 use borrow.Author.Needs.{needs}
 use mathlib.Core.Path.{ap}
 use native.Mathlib.Omega.{arith}
+use borrow.Author.Tests.{not-true, not-false}
 use lib.ListN.{length}
-use denote.Ref.{now}
-use Rattle.walk.proofs.PendingLaws.{entered-pushed, entered-ended}
+use Rattle.walk.proofs.PendingLaws.{ended, unended, entered-pushed, entered-ended}
 use Rattle.walk.proofs.enter_body.Statement.{statement}
 use Rattle.walk.proofs.enter_body.Tie as tie
 
 text-of-requires : tie.Need-text-of-requires
 text-of-requires c κs = search needs
+
+at-end-requires : tie.Need-at-end-requires
+at-end-requires c κs = omega (arith, ap length (c .text-of .ensures), c .before .before .before .before .pre .1 .placed .stands .within)
 
 mul-stack : tie.Need-mul-stack
 mul-stack c = search needs
@@ -33,16 +36,29 @@ same-length : tie.Need-same-length
 same-length c = search needs
 
 returns : tie.Need-returns
-returns c = entered-pushed (now (c .before .before .before .before .before .args .image)) (now (c .before .before .before .before .before .args .path)) (now (c .before .before .before .before .before .args .stack)) (c .before .before .before .before .before .args .w) (c .before .before .before .before .before .pre .1) (c .before .before .before .before .before .pre .2) (c .before .before .before .before .before .args .s) (c .before .before .before .before .before .args .n) (c .before .before .before .before .before .args .start) (omega (arith, ap length (c .before .text-of .ensures)))
+returns c =
+    let args = c .before .before .before .before .before .before .args in
+    let pre = c .before .before .before .before .before .before .pre in
+    let text-of = c .before .before .text-of in
+    let at-end = c .before .at-end in
+    let at-text = unended _ _ (at-end .ensures) (text-of .ensures) (not-true _ (c .if1 .taken)) (pre .1 .placed .stands .within) in
+    entered-pushed (pre .1) (pre .2) (args .s) (args .n) (args .start) at-text
 
 returns-2 : tie.Need-returns-2
-returns-2 c = entered-ended (now (c .before .before .before .before .before .args .image)) (now (c .before .before .before .before .before .args .path)) (now (c .before .before .before .before .before .args .stack)) (c .before .before .before .before .before .args .w) (c .before .before .before .before .before .pre .1) (c .before .before .before .before .before .pre .2) (c .before .before .before .before .before .args .s) (c .before .before .before .before .before .args .n) (c .before .before .before .before .before .args .start) (omega (arith, ap length (c .before .text-of .ensures), c .before .before .before .before .before .pre .1 .placed .stands .within))
+returns-2 c =
+    let args = c .before .before .before .before .before .before .args in
+    let pre = c .before .before .before .before .before .before .pre in
+    let text-of = c .before .before .text-of in
+    let at-end = c .before .at-end in
+    let at-text = ended _ _ (at-end .ensures) (text-of .ensures) (not-false _ (c .if1 .left)) in
+    entered-ended (pre .1) (pre .2) (args .s) (args .n) (args .start) at-text
 
 pub enter-body-spec : {M : Type 1} → statement M
 enter-body-spec =
     tie.close
     (tie.spec
     text-of-requires
+    at-end-requires
     mul-stack
     add-stack
     cast-stack
