@@ -25,6 +25,7 @@ use Rattle.model.specs.declared.Handle.{Handle}
 use Rattle.model.specs.declared.Progress.{Progress}
 use Rattle.model.specs.declared.Reached.{Reached}
 use Rattle.model.specs.declared.Refusal.{Refusal}
+use Rattle.model.specs.declared.Answer.{Answer}
 use Rattle.model.specs.declared.Answer.the-variants.{Found}
 use Rattle.model.specs.declared.Errno.{Errno}
 use Rattle.theorems.proofs.ByteLaws.{field-ext, find-ext}
@@ -156,7 +157,8 @@ module _ (added : Restrictions) (image path : List ℕ) (h : Handle) (how : List
   unfolding traceOf requestOf
   trace-kept l = rw (flags-kept added h how h′ how′ adds (scope l) l, in-root-kept added h how h′ how′ adds (scope l) l, adds .samePlace)
 
-  only-stops : (o : Option Refusal) → refusedBefore image h path how ≡ o → OnlyStops added image path h how h′ how′
+  only-stops : (o : Option Refusal) → refusedBefore image h path how ≡ o
+      → OnlyStops added image path h how h′ how′ (resolve image h path how) (resolve image h′ path how′)
   unfolding resolve eventsOf firstForbidden
   only-stops (some r) e = record {
     same = λ _. rw (before-kept, e);
@@ -175,6 +177,17 @@ pub demand-3 : Demand3
 demand-3 added image path h how h′ how′ a =
     only-stops added image path h how h′ how′ (a .adds) (a .scope) (refusedBefore image h path how) refl
 
+-- the same of answers that are known to be the two calls'
+pub only-stops-answers : (image path : List ℕ) (h : Handle) (how : List ℕ) (h′ : Handle) (how′ : List ℕ) {first second : Answer}
+    → first ≡ resolve image h path how → second ≡ resolve image h′ path how′
+    → (added : Restrictions) → Added added image h how h′ how′ → OnlyStops added image path h how h′ how′ first second
+only-stops-answers image path h how h′ how′ first-is second-is added a =
+    let only = demand-3 added image path h how h′ how′ a in
+    record {
+      same = λ f. second-is ∙ only .same f ∙ sym first-is;
+      stopped = λ e p f. let s = only .stopped e p f in (s .0, s .1, second-is ∙ s .2);
+    }
+
 found-not-refused : (r : Reached) (e : Errno) (p : Progress) → Found r ≡ refused e p → ⊥
 found-not-refused r e p h = let z : _≡_ {A = ℕ} 0 1 = cc in omega arith
 
@@ -186,7 +199,7 @@ pub never-elsewhere : (added : Restrictions) (image path : List ℕ) (h : Handle
 never-elsewhere added image path h how h′ how′ a r found =
     go (firstForbidden added (eventsOf image h path how)) refl
   where
-    only : OnlyStops added image path h how h′ how′
+    only : OnlyStops added image path h how h′ how′ (resolve image h path how) (resolve image h′ path how′)
     only = demand-3 added image path h how h′ how′ a
 
     go : (o : Option Meeting) → firstForbidden added (eventsOf image h path how) ≡ o → resolve image h path how ≡ Found r

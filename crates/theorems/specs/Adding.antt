@@ -20,6 +20,7 @@ use Rattle.model.specs.declared.Progress.{Progress}
 use Rattle.model.specs.declared.Handle.{Handle}
 use Rattle.model.specs.declared.Errno.{Errno}
 use Rattle.model.specs.declared.Refusal.{Refusal}
+use Rattle.model.specs.declared.Answer.{Answer}
 use Rattle.model.specs.declared.Verdict.the-variants.{Accepted}
 
 -- the bits of resolve that stand for the added restrictions; the mark is no bit
@@ -72,13 +73,13 @@ unfoldable pub firstForbidden : Restrictions → List Meeting → Option Meeting
 firstForbidden added [] = none
 firstForbidden added (x ∷ xs) = cond (isSome (forbids added (x .0))) (some x) (firstForbidden added xs)
 
--- Demand 3, of two calls: where the first meets no event that an added restriction forbids, "both answers are the same, place or
--- error, counts included". Otherwise the second's answer "is then the error that document 01 gives this event under all
--- restrictions now set, with the counts reached there".
-pub record OnlyStops (added : Restrictions) (image path : List ℕ) (h : Handle) (how : List ℕ) (h′ : Handle) (how′ : List ℕ) : Type 0 where
-  pub same : firstForbidden added (eventsOf image h path how) ≡ none → resolve image h′ path how′ ≡ resolve image h path how
+-- Demand 3, of the answers of two calls: where the first meets no event that an added restriction forbids, "both answers are the
+-- same, place or error, counts included". Otherwise the second's answer "is then the error that document 01 gives this event under
+-- all restrictions now set, with the counts reached there".
+pub record OnlyStops (added : Restrictions) (image path : List ℕ) (h : Handle) (how : List ℕ) (h′ : Handle) (how′ : List ℕ) (first second : Answer) : Type 0 where
+  pub same : firstForbidden added (eventsOf image h path how) ≡ none → second ≡ first
   pub stopped : (e : Event) (p : Progress) → firstForbidden added (eventsOf image h path how) ≡ some (e, p)
-      → (n : Errno) × (forbids (restrictions h′ how′) e ≡ some n) × (resolve image h′ path how′ ≡ refused n p)
+      → (n : Errno) × (forbids (restrictions h′ how′) e ≡ some n) × (second ≡ refused n p)
 
 -- "Take any accepted table, any good handle, any path and any open_how, whatever restrictions are already set and with IN_ROOT on
 -- or off. Add any of NO_XDEV, NO_MAGICLINKS, NO_SYMLINKS, the below mark and, with IN_ROOT off, BENEATH, and keep all else alike."
@@ -93,4 +94,4 @@ abbrev pub Demand3 : Type 0
 Demand3 =
     (added : Restrictions) (image path : List ℕ) (h : Handle) (how : List ℕ) (h′ : Handle) (how′ : List ℕ)
     → Added added image h how h′ how′
-    → OnlyStops added image path h how h′ how′
+    → OnlyStops added image path h how h′ how′ (resolve image h path how) (resolve image h′ path how′)

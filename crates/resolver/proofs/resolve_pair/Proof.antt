@@ -1,7 +1,7 @@
 -- `resolver::resolve_pair` meets its contract. Assumes nothing.
 use borrow.Author.Needs.{needs}
 use mathlib.Core.Path.{refl}
-use Rattle.theorems.proofs.Demand3.{demand-3}
+use Rattle.theorems.proofs.Demand3.{only-stops-answers}
 use Rattle.resolver.proofs.resolve_pair.Statement.{statement}
 use Rattle.resolver.proofs.resolve_pair.Tie as tie
 
@@ -16,7 +16,7 @@ returns c = (
   record {
     firstAnswer = c .before .resolve .ensures .0;
     secondAnswer = c .resolve2 .ensures .0;
-    onlyStops = λ added. demand-3 added _ _ _ _ _ _;
+    onlyStops = only-stops-answers _ _ _ _ _ _ (c .before .resolve .ensures .0) (c .resolve2 .ensures .0);
   },
   refl,
   refl,
