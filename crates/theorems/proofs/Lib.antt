@@ -1,4 +1,4 @@
--- The theorems, `Demand3` and `Bounds`, and the laws that they and other crates' proofs cite.
+-- The theorems, `Demand3` with `Witnessed`, and `Bounds`, and the laws that they and other crates' proofs cite.
 pub mod Cases
 pub mod ByteLaws
 pub mod BitLaws
@@ -13,3 +13,4 @@ pub mod OnlyStops
 pub mod Demand3
 pub mod Bounds
 pub mod Steps
+pub mod Witnessed

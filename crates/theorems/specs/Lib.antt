@@ -4,3 +4,4 @@ pub mod Adding
 pub mod Bounded
 pub mod Inside
 pub mod Ordered
+pub mod Witness
