@@ -134,30 +134,18 @@ pub extern "C" fn ventolaire_resolve<'a>(
     6
 }
 
-// The same answer with the table checked once and the call made a number of times: what a walk costs without the table check.
-fn resolve_again<'a>(image: &'a [u8], h: Handle, path: &'a [u8], how: &[u8], times: usize) -> Answer
-    requires { ⌜ tableCheck (now image) ≡ Accepted ⌝ }
-    ensures { λ r. ⌜ r ≡ resolve (now (image .entry)) h (now (path .entry)) (now (how .entry)) ⌝ }
-{
-    let mut made = 1;
-    while made < times {
-        resolve_accepted(image, h, path, how);
-        made += 1;
-    }
-    resolve_accepted(image, h, path, how)
-}
-
+// The resolver for an image that `ventolaire_check` accepted and that has not changed since: the same answer without the table check.
 #[no_mangle]
-pub extern "C" fn ventolaire_resolve_times<'a>(
+pub extern "C" fn ventolaire_resolve_accepted<'a>(
     image: &'a [u8],
     mount: u64,
     node: u64,
     mark: bool,
     path: &'a [u8],
     how: &[u8],
-    times: usize,
     out: &mut [u64],
 ) -> usize
+    requires { ⌜ tableCheck (now image) ≡ Accepted ⌝ }
     ensures { λ r. ⌜ Writes (answerNumbers (resolve (now (image .entry)) (handleOf mount node mark) (now (path .entry)) (now (how .entry)))) (now (out .entry)) (now (out .exit)) r × (now (image .exit) ≡ now (image .entry)) × (now (path .exit) ≡ now (path .entry)) × (now (how .exit) ≡ now (how .entry)) ⌝ }
 {
     if out.len() < 6 {
@@ -168,12 +156,7 @@ pub extern "C" fn ventolaire_resolve_times<'a>(
         node: node as usize,
         mark,
     };
-    let verdict = check(image);
-    if let Verdict::Accepted = verdict {
-        put_answer(out, resolve_again(image, h, path, how, times));
-        return 6;
-    }
-    put_answer(out, resolve(image, h, path, how));
+    put_answer(out, resolve_accepted(image, h, path, how));
     6
 }
 

@@ -12,7 +12,10 @@ use Rattle.ventolaire.proofs.ventolaire_resolve.Statement.{statement}
 use Rattle.ventolaire.proofs.ventolaire_resolve.Tie as tie
 
 returns : tie.Need-returns
-returns c = (answer-short (resolve (now (c .before .before .before .before .before .args .image)) (handleOf (c .before .before .before .before .before .args .mount) (c .before .before .before .before .before .args .node) (c .before .before .before .before .before .args .mark)) (now (c .before .before .before .before .before .args .path)) (now (c .before .before .before .before .before .args .how))) (now (c .before .before .before .before .before .args .out)) (c .if1 .taken), refl, refl, refl)
+returns c =
+    let x = c .before .before .before .before .before .args in
+    let a = resolve (now (x .image)) (handleOf (x .mount) (x .node) (x .mark)) (now (x .path)) (now (x .how)) in
+    (answer-short a (now (x .out)) (c .if1 .taken), refl, refl, refl)
 
 resolve-requires : tie.Need-resolve-requires
 resolve-requires c κs = search needs
@@ -25,8 +28,11 @@ same-length c = search needs
 
 returns-2 : tie.Need-returns-2
 returns-2 c =
-    let a = resolve (now (c .before .before .before .before .before .before .before .before .before .before .args .image)) (handleOf (c .before .before .before .before .before .before .before .before .before .before .args .mount) (c .before .before .before .before .before .before .before .before .before .before .args .node) (c .before .before .before .before .before .before .before .before .before .before .args .mark)) (now (c .before .before .before .before .before .before .before .before .before .before .args .path)) (now (c .before .before .before .before .before .before .before .before .before .before .args .how)) in
-    (answer-writes a (now (c .before .before .before .before .before .before .before .before .before .before .args .out)) (c .before .before .put-answer .last .0) (c .before .before .before .before .before .if1 .left) (c .before .before .put-answer .ensures ∙ ap (λ x. answerNumbers x ++ drop 6 (now (c .before .before .before .before .before .before .before .before .before .before .args .out))) (c .before .before .before .resolve .ensures .0)), refl, refl, refl)
+    let x = c .before .before .before .before .before .before .before .before .before .before .args in
+    let a = resolve (now (x .image)) (handleOf (x .mount) (x .node) (x .mark)) (now (x .path)) (now (x .how)) in
+    let written = c .before .before .put-answer in
+    let answered = ap (λ y. answerNumbers y ++ drop 6 (now (x .out))) (c .before .before .before .resolve .ensures .0) in
+    (answer-writes a (now (x .out)) (written .last .0) (c .before .before .before .before .before .if1 .left) (written .ensures ∙ answered), refl, refl, refl)
 
 pub ventolaire-resolve-spec : {M : Type 1} → statement M
 ventolaire-resolve-spec =

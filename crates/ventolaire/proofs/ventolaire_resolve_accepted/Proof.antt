@@ -1,0 +1,39 @@
+-- `ventolaire::ventolaire_resolve_accepted` meets its contract. Assumes nothing.
+use borrow.Author.Needs.{needs}
+use mathlib.Core.List.{_++_}
+use mathlib.Core.Path.{ap, _∙_, refl}
+use lib.ListN.{drop}
+use denote.Ref.{now}
+use Rattle.model.specs.Answers.{answerNumbers}
+use Rattle.model.specs.Resolve.{resolve}
+use Rattle.ventolaire.specs.Written.{handleOf}
+use Rattle.ventolaire.proofs.OutLaws.{answer-writes, answer-short}
+use Rattle.ventolaire.proofs.ventolaire_resolve_accepted.Statement.{statement}
+use Rattle.ventolaire.proofs.ventolaire_resolve_accepted.Tie as tie
+
+returns : tie.Need-returns
+returns c =
+    let x = c .before .before .before .before .before .args in
+    let a = resolve (now (x .image)) (handleOf (x .mount) (x .node) (x .mark)) (now (x .path)) (now (x .how)) in
+    (answer-short a (now (x .out)) (c .if1 .taken), refl, refl, refl)
+
+resolve-accepted-requires : tie.Need-resolve-accepted-requires
+resolve-accepted-requires c κs = c .before .before .before .before .before .before .pre
+
+put-answer-requires : tie.Need-put-answer-requires
+put-answer-requires c κs = search needs
+
+same-length : tie.Need-same-length
+same-length c = search needs
+
+returns-2 : tie.Need-returns-2
+returns-2 c =
+    let x = c .before .before .before .before .before .before .before .before .before .before .args in
+    let a = resolve (now (x .image)) (handleOf (x .mount) (x .node) (x .mark)) (now (x .path)) (now (x .how)) in
+    let written = c .before .before .put-answer in
+    let answered = ap (λ y. answerNumbers y ++ drop 6 (now (x .out))) (c .before .before .before .resolve-accepted .ensures .0) in
+    (answer-writes a (now (x .out)) (written .last .0) (c .before .before .before .before .before .if1 .left) (written .ensures ∙ answered), refl, refl, refl)
+
+pub ventolaire-resolve-accepted-spec : {M : Type 1} → statement M
+ventolaire-resolve-accepted-spec =
+    tie.close (tie.spec returns resolve-accepted-requires put-answer-requires same-length returns-2)
