@@ -12,7 +12,7 @@
  *   many numbers that are, and what lies behind them is not touched. `out` must
  *   not overlap what is lent.
  * - Any bytes and any numbers may be passed: what is wrong with them is said by
- *   the answer.
+ *   the answer. Only ventolaire_resolve_accepted asks for an accepted image.
  * - Nothing is allocated, and no state is kept between calls.
  *
  * The library needs no other library: cc program.c -L FOLDER -lventolaire
@@ -111,15 +111,20 @@ size_t ventolaire_resolve(const uint8_t *image, size_t image_len,
                           uint64_t *out, size_t out_len);
 
 /*
- * Answers as ventolaire_resolve does, but checks the image once and then
- * resolves `times` times (0 counts as 1): for measuring what a path costs
- * without the table check.
+ * Answers as ventolaire_resolve does, without the table check. It wants an image
+ * that was accepted: ventolaire_check has answered { 0, 0 } for these image_len
+ * bytes, and not one of them has changed since. With any other image the
+ * behaviour is undefined: memory outside of it may be read, and the call may not
+ * end. Handle, path and open_how may be anything, as for ventolaire_resolve.
+ *
+ * The check reads the whole image, a walk only what lies on its way: who
+ * resolves many paths in one table checks it once and then calls this.
  */
-size_t ventolaire_resolve_times(const uint8_t *image, size_t image_len,
-                                uint64_t mount, uint64_t node, bool mark,
-                                const uint8_t *path, size_t path_len,
-                                const uint8_t *how, size_t how_len,
-                                size_t times, uint64_t *out, size_t out_len);
+size_t ventolaire_resolve_accepted(const uint8_t *image, size_t image_len,
+                                   uint64_t mount, uint64_t node, bool mark,
+                                   const uint8_t *path, size_t path_len,
+                                   const uint8_t *how, size_t how_len,
+                                   uint64_t *out, size_t out_len);
 
 /*
  * Writes the numbers of all refusals, in this order: EUCLEAN, E2BIG, EINVAL,

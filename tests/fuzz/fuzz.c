@@ -241,15 +241,18 @@ int LLVMFuzzerTestOneInput(const uint8_t *data, size_t size)
     require_unchanged(&lent);
     require_sound(checked, answer, &lent);
 
-    /* More room than needed, and several walks: the same answer. */
+    /* More room than needed, and no table check if the table is known to be
+     * accepted: the same answer. */
+    bool accepted = checked[VENTOLAIRE_CHECK_RULE] == 0;
     prepare(again);
-    require(ventolaire_resolve_times(lent.image, lent.image_len, mount, node, mark,
-                                     lent.path, lent.path_len, lent.how, lent.how_len,
-                                     2, again, OUT_ROOM)
+    require((accepted ? ventolaire_resolve_accepted : ventolaire_resolve)(
+                lent.image, lent.image_len, mount, node, mark,
+                lent.path, lent.path_len, lent.how, lent.how_len,
+                again, OUT_ROOM)
                 == VENTOLAIRE_ANSWER_LEN,
-            "wrong count from resolve_times");
+            "wrong count with more room, or over an accepted table");
     require(memcmp(answer, again, sizeof answer) == 0,
-            "resolve and resolve_times answer differently");
+            "another answer with more room, or over an accepted table");
     require_unchanged(&lent);
 
     /* Too little room: nothing happens. */
@@ -263,6 +266,13 @@ int LLVMFuzzerTestOneInput(const uint8_t *data, size_t size)
                                too_short == 0 ? NULL : again, too_short)
                 == 0,
             "resolve wrote into too little room");
+    require(!accepted
+                || ventolaire_resolve_accepted(lent.image, lent.image_len, mount, node, mark,
+                                               lent.path, lent.path_len,
+                                               lent.how, lent.how_len,
+                                               too_short == 0 ? NULL : again, too_short)
+                       == 0,
+            "resolve_accepted wrote into too little room");
     require_untouched(again, 0);
     require_unchanged(&lent);
 

@@ -24,7 +24,9 @@ extern "C" {
         out_len: usize,
     ) -> usize;
 
-    pub fn ventolaire_resolve_times(
+    /// Wants an image that `ventolaire_check` accepted and that has not changed
+    /// since; with any other the behaviour is undefined.
+    pub fn ventolaire_resolve_accepted(
         image: *const u8,
         image_len: usize,
         mount: u64,
@@ -34,7 +36,6 @@ extern "C" {
         path_len: usize,
         how: *const u8,
         how_len: usize,
-        times: usize,
         out: *mut u64,
         out_len: usize,
     ) -> usize;

@@ -1,6 +1,6 @@
 //! The library's C functions called, and all of this crate that is unsafe.
 
-use crate::declared::{ventolaire_check, ventolaire_resolve};
+use crate::declared::{ventolaire_check, ventolaire_resolve, ventolaire_resolve_accepted};
 use crate::Handle;
 
 /// What stands in an output before the call. Neither a rule nor an errno, so
@@ -39,11 +39,39 @@ pub fn resolve(image: &[u8], handle: Handle, path: &[u8], how: &[u8]) -> [u64; 6
     out
 }
 
+/// As [`resolve`], without the table check.
+///
+/// # Safety
+///
+/// [`check`] has accepted `image`.
+#[allow(dead_code)] // nothing in the safe interface holds a checked image
+pub unsafe fn resolve_accepted(image: &[u8], handle: Handle, path: &[u8], how: &[u8]) -> [u64; 6] {
+    let mut out = [UNWRITTEN; 6];
+    // SAFETY: as in `resolve`; that the image is accepted is the caller's word,
+    // and it has not changed since it is borrowed.
+    unsafe {
+        ventolaire_resolve_accepted(
+            image.as_ptr(),
+            image.len(),
+            handle.mount,
+            handle.node,
+            handle.mark,
+            path.as_ptr(),
+            path.len(),
+            how.as_ptr(),
+            how.len(),
+            out.as_mut_ptr(),
+            out.len(),
+        )
+    };
+    out
+}
+
 #[cfg(test)]
 mod tests {
     use super::*;
-    use crate::bench_tree::IMAGE;
-    use crate::declared::{ventolaire_errnos, ventolaire_resolve_times};
+    use crate::bench_tree::{IMAGE, TABLE};
+    use crate::declared::ventolaire_errnos;
     use crate::Errno;
     use std::ptr;
 
@@ -66,11 +94,13 @@ mod tests {
     }
 
     // SAFETY of the calls below: as in `check` and `resolve`. No `out_len` is
-    // more than the room, and a null pointer goes with the length 0.
+    // more than the room, and a null pointer goes with the length 0. That the
+    // bench tree is accepted is asserted before each walk that relies on it.
 
     #[test]
     fn outputs_are_written_whole_or_not_at_all() {
         let (path, how) = (b"cal/abs", [0; 24]);
+        assert_eq!(check(IMAGE), [0, 0]);
         writes_all_or_nothing([0, 0], |out, out_len| unsafe {
             ventolaire_check(IMAGE.as_ptr(), IMAGE.len(), out, out_len)
         });
@@ -89,27 +119,40 @@ mod tests {
                 out_len,
             )
         });
-        for times in [0, 1, 2, 100] {
-            writes_all_or_nothing([0, 255, 0, 3, 5, 1], |out, out_len| unsafe {
-                ventolaire_resolve_times(
-                    IMAGE.as_ptr(),
-                    IMAGE.len(),
-                    0,
-                    1,
-                    false,
-                    path.as_ptr(),
-                    path.len(),
-                    how.as_ptr(),
-                    how.len(),
-                    times,
-                    out,
-                    out_len,
-                )
-            });
-        }
+        writes_all_or_nothing([0, 255, 0, 3, 5, 1], |out, out_len| unsafe {
+            ventolaire_resolve_accepted(
+                IMAGE.as_ptr(),
+                IMAGE.len(),
+                0,
+                1,
+                false,
+                path.as_ptr(),
+                path.len(),
+                how.as_ptr(),
+                how.len(),
+                out,
+                out_len,
+            )
+        });
         writes_all_or_nothing([117, 7, 22, 36, 2, 9, 20, 40, 18], |out, out_len| unsafe {
             ventolaire_errnos(out, out_len)
         });
+    }
+
+    #[test]
+    fn over_an_accepted_table_the_answer_is_the_same() {
+        assert_eq!(check(IMAGE), [0, 0]);
+        let both = |handle: Handle, path: &[u8], how: &[u8]| {
+            let answer = resolve(IMAGE, handle, path, how);
+            assert_eq!(unsafe { resolve_accepted(IMAGE, handle, path, how) }, answer);
+        };
+        for row in TABLE {
+            let how = row.how.to_bytes();
+            both(row.handle, row.path.as_bytes(), &how);
+            both(Handle::new(u64::MAX, 0), row.path.as_bytes(), &how);
+            both(row.handle, b"", &how);
+            both(row.handle, row.path.as_bytes(), &how[1..]);
+        }
     }
 
     #[test]
