@@ -21,7 +21,8 @@
 //!
 //! Instructions are counted with valgrind's callgrind. A table check is measured
 //! as it is. A walk is measured without the table check before it: the table is
-//! checked once in each run, and the difference of two runs is the walks alone.
+//! checked once in each run, and the difference of two runs is the walks alone,
+//! each a call of a C function on either side.
 
 mod chart;
 mod growth;
@@ -33,6 +34,7 @@ mod side;
 mod tables;
 #[cfg(test)]
 mod tests;
+mod walk;
 
 use measure::{Cost, Measured};
 use side::Side;

@@ -1,9 +1,10 @@
 //! The two sides that are measured.
 
-use crate::plain::{self, Broken, Found, Refusal};
+use crate::plain::{self, Broken, Found, Handle, Refusal};
 #[cfg(feature = "proved")]
 use crate::proved;
 use crate::tables::{Call, Input, Numbers};
+use crate::walk::Accepted;
 use std::hint::black_box;
 
 #[derive(Clone, Copy)]
@@ -36,22 +37,13 @@ impl Side {
         match (self, &input.call) {
             (Side::Plain, Call::Check) => repeat(calls, || checked(plain::check(black_box(image)))),
             (Side::Plain, Call::Resolve { handle, path, how }) => {
-                black_box(plain::check(black_box(image)).is_ok());
-                repeat(calls, || {
-                    resolved(plain::resolve_checked(
-                        black_box(image),
-                        black_box(*handle),
-                        black_box(path),
-                        black_box(how),
-                    ))
-                })
+                walks(calls, &Accepted::plain(image), *handle, path, how)
             }
             #[cfg(feature = "proved")]
             (Side::Proved, Call::Check) => repeat(calls, || proved::check(black_box(image))),
             #[cfg(feature = "proved")]
             (Side::Proved, Call::Resolve { handle, path, how }) => {
-                // The library's own loop, which checks the table once.
-                sum(proved::resolve_times(image, *handle, path, how, calls))
+                walks(calls, &proved::accepted(image), *handle, path, how)
             }
         }
     }
@@ -65,18 +57,23 @@ impl Side {
             (Side::Plain, Call::Check) => vec![checked(plain::check(image))],
             (Side::Plain, &Call::Resolve { handle, ref path, ref how }) => vec![
                 resolved(plain::resolve(image, handle, path, how)),
-                resolved(plain::resolve_checked(image, handle, path, how)),
+                Accepted::plain(image).resolve(handle, path, how),
             ],
             #[cfg(feature = "proved")]
             (Side::Proved, Call::Check) => vec![proved::check(image)],
             #[cfg(feature = "proved")]
             (Side::Proved, &Call::Resolve { handle, ref path, ref how }) => vec![
                 proved::resolve(image, handle, path, how),
-                proved::resolve_times(image, handle, path, how, 1),
-                proved::resolve_times(image, handle, path, how, 3),
+                proved::accepted(image).resolve(handle, path, how),
             ],
         }
     }
+}
+
+/// Not inlined, so that both sides are called by the same instructions.
+#[inline(never)]
+fn walks(calls: u64, table: &Accepted, handle: Handle, path: &[u8], how: &[u8]) -> u64 {
+    repeat(calls, || table.resolve(handle, path, how))
 }
 
 fn repeat(calls: u64, call: impl Fn() -> Numbers) -> u64 {
