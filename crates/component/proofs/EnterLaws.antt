@@ -5,7 +5,7 @@ use mathlib.Core.Option.{Option, some, none}
 use mathlib.Core.Path.{_≡_, refl, sym, ap, _∙_, subst}
 use lib.Dec.{eqb}
 use borrow.Author.Tests.{eqb-true}
-use Rattle.model.specs.Tree.{Tree, isDirectory, isLink, mountOn}
+use Rattle.model.specs.Tree.{Tree, isDirectory, mountOn}
 use Rattle.model.specs.Walk.{stayAt, enterBy, enter}
 use Rattle.model.specs.declared.Place.{Place}
 use Rattle.theorems.specs.Acceptance.{MountsHold}
@@ -26,8 +26,3 @@ uncovered-by t mounts p d (some m) e =
 pub not-entered : (t : Tree) → MountsHold t → (p : Place) → isDirectory t (p .node) ≡ false → enter t p ≡ stayAt p
 unfolding enter
 not-entered t mounts p d = ap (enterBy t p) (uncovered-by t mounts p d (mountOn t p) refl)
-
--- a link is no directory
-pub link-no-directory : (t : Tree) (n : ℕ) → isLink t n ≡ true → t .kind n ≡ 1 → ⊥
-unfolding isLink
-link-no-directory t n h e = true≢false (sym h ∙ rw e)

@@ -2,3 +2,4 @@ mod DotLaws
 mod EnterLaws
 mod RowLaws
 mod LimitLaws
+mod StepLaws

@@ -2,7 +2,8 @@
 mod links;
 mod moves;
 
-use crate::links::follow_link;
+use crate::links::magic_to;
+use crate::links::symbolic_to;
 use crate::moves::enter;
 use crate::moves::go_up;
 use image::records::Counts;
@@ -12,10 +13,10 @@ use image::search::Search;
 use model::Errno;
 use model::Place;
 use tree::find_entry;
-ghost use mathlib.Core.Bool.{true, not, _||_};
+ghost use mathlib.Core.Bool.{true};
 ghost use mathlib.Core.Path.{_≡_};
 ghost use Prim.Native.Nat.{ℕ, _≤_, _<_};
-ghost use Rattle.model.specs.Tree.{treeOf, isDirectory, isLink};
+ghost use Rattle.model.specs.Tree.{treeOf, isDirectory};
 ghost use Rattle.model.specs.Walk.{stepTo, byName, oneComponent};
 ghost use Rattle.theorems.proofs.Inside.{Inside};
 ghost use Rattle.component.specs.Outcomes.{requestFor, restrictionsFor, outcome, dotsOf};
@@ -40,40 +41,8 @@ pub enum Outcome {
     Read(usize, Place),
 }
 
-// "A link that is not last, or is last and followed"
-fn is_followed(last: bool, follow: bool) -> bool
-    ensures { λ r. ⌜ r ≡ not last || follow ⌝ }
-{
-    if last {
-        return follow;
-    }
-    true
-}
-
-// A link: followed, or a place to stand on.
-fn link_to(
-    image: &[u8],
-    c: Counts,
-    k: Ask,
-    last: bool,
-    links: usize,
-    p: Place,
-    n: usize,
-    kind: usize,
-) -> Outcome
-    requires { ⌜ Walking (now image) c k × (n < treeOf (now image) .nodes) × (kind ≡ treeOf (now image) .kind n) × (isLink (treeOf (now image)) n ≡ true) ⌝ }
-    ensures { λ r. ⌜ r ≡ outcome (restrictionsFor k) links (stepTo (requestFor (now (image .entry)) k) last p n) ⌝ }
-{
-    if !is_followed(last, k.follow) {
-        return Outcome::Go(Place {
-            mount: p.mount,
-            node: n,
-        });
-    }
-    follow_link(image, c, k, links, p, n, kind)
-}
-
-// A named node, by its kind; an accepted table has none but 1 to 4. Only a directory can be covered.
+// A named node, by its kind. Only a directory can be covered. An accepted table has none but 1 to 4; any other is no link, and so
+// stepped to.
 fn step_to(image: &[u8], c: Counts, k: Ask, last: bool, links: usize, p: Place, n: usize) -> Outcome
     requires { ⌜ Walking (now image) c k × Inside (treeOf (now image)) p × (n < treeOf (now image) .nodes) ⌝ }
     ensures { λ r. ⌜ r ≡ outcome (restrictionsFor k) links (stepTo (requestFor (now (image .entry)) k) last p n) ⌝ }
@@ -86,7 +55,9 @@ fn step_to(image: &[u8], c: Counts, k: Ask, last: bool, links: usize, p: Place, 
     match kind {
         1 => enter(image, c, k.mark, k.resolve, there),
         2 => Outcome::Go(there),
-        _ => link_to(image, c, k, last, links, p, n, kind),
+        3 => symbolic_to(image, c, k, last, links, p, n),
+        4 => magic_to(image, c, k, last, links, p, n),
+        _ => Outcome::Go(there),
     }
 }
 

@@ -14,14 +14,14 @@ use open_how::NO_SYMLINKS;
 use open_how::NO_XDEV;
 use open_how::has;
 use text::is_absolute;
-ghost use mathlib.Core.Bool.{true, not, _&&_};
-ghost use lib.Dec.{eqb};
+ghost use mathlib.Core.Bool.{not, _&&_, _||_};
+ghost use lib.Dec.{eqb, ltb};
 ghost use mathlib.Core.Path.{_≡_};
 ghost use Prim.Native.Nat.{ℕ, _<_};
 ghost use Rattle.model.specs.Bytes.{has};
 ghost use Rattle.model.specs.OpenHow.{NO-XDEV};
-ghost use Rattle.model.specs.Tree.{treeOf, isLink};
-ghost use Rattle.model.specs.Walk.{magicLink, symbolicLink, followLink};
+ghost use Rattle.model.specs.Tree.{treeOf};
+ghost use Rattle.model.specs.Walk.{magicLink, symbolicLink, stepTo};
 ghost use Rattle.component.specs.Outcomes.{requestFor, restrictionsFor, outcome, unlimited};
 ghost use Rattle.theorems.specs.Acceptance.{Sized};
 ghost use Rattle.component.specs.Walking.{Walking};
@@ -88,24 +88,69 @@ fn follow_symbolic(image: &[u8], c: Counts, k: Ask, p: Place, n: usize) -> Outco
     Outcome::Read(n, root)
 }
 
+// "A link that is not last, or is last and followed"
+fn is_followed(last: bool, follow: bool) -> bool
+    ensures { λ r. ⌜ r ≡ not last || follow ⌝ }
+{
+    if last {
+        return follow;
+    }
+    true
+}
+
 // The 41st link of a walk is refused before any of its events.
-pub fn follow_link(
+fn is_spent(links: usize) -> bool
+    ensures { λ r. ⌜ r ≡ not (ltb links 40) ⌝ }
+{
+    40 <= links
+}
+
+// A magic link: followed, or a place to stand on.
+pub fn magic_to(
     image: &[u8],
     c: Counts,
     k: Ask,
+    last: bool,
     links: usize,
     p: Place,
     n: usize,
-    kind: usize,
 ) -> Outcome
-    requires { ⌜ Walking (now image) c k × (n < treeOf (now image) .nodes) × (kind ≡ treeOf (now image) .kind n) × (isLink (treeOf (now image)) n ≡ true) ⌝ }
-    ensures { λ r. ⌜ r ≡ outcome (restrictionsFor k) links (followLink (requestFor (now (image .entry)) k) p n) ⌝ }
+    requires { ⌜ Walking (now image) c k × (n < treeOf (now image) .nodes) × (treeOf (now image) .kind n ≡ 4) ⌝ }
+    ensures { λ r. ⌜ r ≡ outcome (restrictionsFor k) links (stepTo (requestFor (now (image .entry)) k) last p n) ⌝ }
 {
-    if 40 <= links {
+    if !is_followed(last, k.follow) {
+        return Outcome::Go(Place {
+            mount: p.mount,
+            node: n,
+        });
+    }
+    if is_spent(links) {
         return Outcome::Stop(Errno::Eloop);
     }
-    match kind {
-        4 => follow_magic(image, k, p, n),
-        _ => follow_symbolic(image, c, k, p, n),
+    follow_magic(image, k, p, n)
+}
+
+// A symbolic link: followed, or a place to stand on.
+pub fn symbolic_to(
+    image: &[u8],
+    c: Counts,
+    k: Ask,
+    last: bool,
+    links: usize,
+    p: Place,
+    n: usize,
+) -> Outcome
+    requires { ⌜ Walking (now image) c k × (n < treeOf (now image) .nodes) × (treeOf (now image) .kind n ≡ 3) ⌝ }
+    ensures { λ r. ⌜ r ≡ outcome (restrictionsFor k) links (stepTo (requestFor (now (image .entry)) k) last p n) ⌝ }
+{
+    if !is_followed(last, k.follow) {
+        return Outcome::Go(Place {
+            mount: p.mount,
+            node: n,
+        });
     }
+    if is_spent(links) {
+        return Outcome::Stop(Errno::Eloop);
+    }
+    follow_symbolic(image, c, k, p, n)
 }

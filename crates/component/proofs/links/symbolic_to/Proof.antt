@@ -1,0 +1,57 @@
+-- `component::links::symbolic_to` meets its contract. Assumes nothing.
+use borrow.Author.Needs.{needs}
+use borrow.Author.Tests.{not-true, not-false}
+use mathlib.Core.Path.{_≡_, sym, _∙_}
+use native.Mathlib.Omega.{arith}
+use denote.Ref.{now}
+use Rattle.theorems.proofs.Acceptance.{accepted-sound}
+use Rattle.component.specs.Outcomes.{requestFor, restrictionsFor}
+use Rattle.component.proofs.LimitLaws.{symbolic-open, symbolic-spent}
+use Rattle.component.proofs.StepLaws.{stood-link, symbolic-step}
+use Rattle.component.proofs.links.symbolic_to.Statement.{statement}
+use Rattle.component.proofs.links.symbolic_to.Tie as tie
+
+is-followed-requires : tie.Need-is-followed-requires
+is-followed-requires c κs = tt
+
+returns : tie.Need-returns
+returns c =
+    let a = c .before .before .before .args in
+    let sound = accepted-sound (now (a .image)) (c .before .before .before .pre .0 .reading .accepted) in
+    let stood = stood-link (restrictionsFor (a .k)) (a .links) (requestFor (now (a .image)) (a .k)) (a .last) (a .p) (a .n) in
+    stood (sound .mounts-hold) (λ e. omega (arith, c .before .before .before .pre .2)) (sym (c .before .is-followed .ensures) ∙ not-true _ (c .if1 .taken))
+
+is-spent-requires : tie.Need-is-spent-requires
+is-spent-requires c κs = tt
+
+returns-2 : tie.Need-returns-2
+returns-2 c =
+    let a = c .before .before .before .before .before .args in
+    let R = restrictionsFor (a .k) in
+    let q = requestFor (now (a .image)) (a .k) in
+    let step = symbolic-step R (a .links) q (a .last) (a .p) (a .n) (c .before .before .before .before .before .pre .2) in
+    let end = symbolic-spent R (a .links) q (a .p) (a .n) (not-true _ (sym (c .before .is-spent .ensures) ∙ c .if2 .taken)) in
+    sym (step (sym (c .before .before .before .is-followed .ensures) ∙ not-false _ (c .before .before .if1 .left)) ∙ end)
+
+follow-symbolic-requires : tie.Need-follow-symbolic-requires
+follow-symbolic-requires c κs = search needs
+
+returns-3 : tie.Need-returns-3
+returns-3 c =
+    let a = c .before .before .before .before .before .before .args in
+    let R = restrictionsFor (a .k) in
+    let q = requestFor (now (a .image)) (a .k) in
+    let step = symbolic-step R (a .links) q (a .last) (a .p) (a .n) (c .before .before .before .before .before .before .pre .2) in
+    let end = symbolic-open R (a .links) q (a .p) (a .n) (not-false _ (sym (c .before .before .is-spent .ensures) ∙ c .before .if2 .left)) in
+    c .follow-symbolic .ensures ∙ sym (step (sym (c .before .before .before .before .is-followed .ensures) ∙ not-false _ (c .before .before .before .if1 .left)) ∙ end)
+
+pub symbolic-to-spec : {M : Type 1} → statement M
+symbolic-to-spec =
+    tie.close
+    (tie.spec
+    is-followed-requires
+    returns
+    is-spent-requires
+    returns-2
+    follow-symbolic-requires
+    returns-3)
