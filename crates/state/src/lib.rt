@@ -29,7 +29,8 @@ pub fn refuse(errno: Errno, progress: Progress) -> Answer
     })
 }
 
-// The end: a directory where one is required, and no link without O_PATH.
+// The end: a directory where one is required, and no link without O_PATH. An accepted table has no kind but 1 to 4; any other is no
+// directory and no link.
 pub fn finish(image: &[u8], c: Counts, k: Ask, s: State) -> Answer
     requires { ⌜ Walking (now image) c k × Inside (treeOf (now image)) (s .place) ⌝ }
     ensures { λ r. ⌜ r ≡ finish (requestFor (now (image .entry)) k) s ⌝ }
@@ -37,19 +38,30 @@ pub fn finish(image: &[u8], c: Counts, k: Ask, s: State) -> Answer
     let place = s.place;
     let progress = s.progress;
     let kind = node_kind(image, place.node);
-    if kind == 1 {
-        return Answer::Found(Reached { place, progress });
+    match kind {
+        1 => Answer::Found(Reached { place, progress }),
+        2 => {
+            if s.directory {
+                return refuse(Errno::Enotdir, progress);
+            }
+            Answer::Found(Reached { place, progress })
+        }
+        3 | 4 => {
+            if s.directory {
+                return refuse(Errno::Enotdir, progress);
+            }
+            if k.opath {
+                return Answer::Found(Reached { place, progress });
+            }
+            refuse(Errno::Eloop, progress)
+        }
+        _ => {
+            if s.directory {
+                return refuse(Errno::Enotdir, progress);
+            }
+            Answer::Found(Reached { place, progress })
+        }
     }
-    if s.directory {
-        return refuse(Errno::Enotdir, progress);
-    }
-    if kind == 2 {
-        return Answer::Found(Reached { place, progress });
-    }
-    if k.opath {
-        return Answer::Found(Reached { place, progress });
-    }
-    refuse(Errno::Eloop, progress)
 }
 
 // "Taking it adds 1 to the components."

@@ -1,70 +1,95 @@
--- `state::finish` meets its contract. Assumes nothing.
-use mathlib.Core.Bool.{and-false}
+-- `state::finish` meets its contract: one arm for each kind, and one for the other numbers. Assumes nothing.
+use mathlib.Core.Logic.{⊎-elim}
 use mathlib.Core.Path.{_≡_, _∙_, sym}
+use native.Mathlib.Omega.{arith}
 use denote.Ref.{now}
-use Rattle.model.specs.Tree.{treeOf, isLink}
-use Rattle.model.specs.Walk.{finish}
-use Rattle.theorems.proofs.Acceptance.{accepted-sound}
-use Rattle.theorems.proofs.EntryLaws.{is-directory, not-directory, link-kind}
+use Rattle.component.specs.Outcomes.{requestFor}
+use Rattle.state.proofs.EndLaws.{end-directory, end-required, end-other, end-link-path, end-link}
 use Rattle.state.proofs.finish.Statement.{statement}
 use Rattle.state.proofs.finish.Tie as tie
 
 node-kind-requires : tie.Need-node-kind-requires
 node-kind-requires c κs = (c .before .before .before .pre .0 .reading .counted .sized, c .before .before .before .pre .1 .node-below)
 
-returns : tie.Need-returns
-unfolding finish isLink
-returns c =
-    let t = treeOf (now (c .before .before .before .before .before .args .image)) in
-    let n = c .before .before .before .before .before .args .s .place .node in
-    let kind : t .kind n ≡ 1 = sym (c .before .node-kind .ensures .0) ∙ c .if1 .taken in
-    rw (is-directory t n (c .before .before .before .before .before .pre .1 .node-below) kind, and-false (c .before .before .before .before .before .args .s .directory), kind)
-
 refuse-requires : tie.Need-refuse-requires
 refuse-requires c κs = tt
 
-returns-2 : tie.Need-returns-2
-unfolding finish
-returns-2 c =
-    let t = treeOf (now (c .before .before .before .before .before .before .before .args .image)) in
-    let n = c .before .before .before .before .before .before .before .args .s .place .node in
-    c .refuse .ensures ∙ rw (c .before .if2 .taken, not-directory t n (λ e. c .before .before .if1 .left (c .before .before .before .node-kind .ensures .0 ∙ e)))
-
-returns-3 : tie.Need-returns-3
-unfolding finish isLink
-returns-3 c =
-    let t = treeOf (now (c .before .before .before .before .before .before .before .args .image)) in
-    let n = c .before .before .before .before .before .before .before .args .s .place .node in
-    let kind : t .kind n ≡ 2 = sym (c .before .before .before .node-kind .ensures .0) ∙ c .if3 .taken in
-    rw (c .before .if2 .left, kind)
-
-returns-4 : tie.Need-returns-4
-unfolding finish
-returns-4 c =
-    let t = treeOf (now (c .before .before .before .before .before .before .before .before .args .image)) in
-    let n = c .before .before .before .before .before .before .before .before .args .s .place .node in
-    rw (c .before .before .if2 .left, c .if4 .taken, and-false (isLink t n))
+returns : tie.Need-returns
+returns c =
+    let a = c .before .before .before .before .before .before .before .args in
+    let kind = c .before .before .before .node-kind .ensures .0 in
+    c .refuse .ensures ∙ end-required (requestFor (now (a .image)) (a .k)) (a .s) (c .before .if1 .taken) (λ e. omega (arith, kind, c .before .before .match .keys2))
 
 refuse-requires-2 : tie.Need-refuse-requires-2
 refuse-requires-2 c κs = tt
 
+returns-2 : tie.Need-returns-2
+returns-2 c =
+    let a = c .before .before .before .before .before .before .before .before .before .args in
+    let kind = c .before .before .before .before .before .node-kind .ensures .0 in
+    c .refuse2 .ensures ∙ end-required (requestFor (now (a .image)) (a .k)) (a .s) (c .before .if4 .taken) (λ e. omega (arith, kind, c .before .before .before .if2 .left))
+
+returns-3 : tie.Need-returns-3
+returns-3 c =
+    let a = c .before .before .before .before .before .before .before .before .before .args in
+    end-link-path (requestFor (now (a .image)) (a .k)) (a .s) (c .before .if4 .left) (c .if5 .taken)
+
+refuse-requires-3 : tie.Need-refuse-requires-3
+refuse-requires-3 c κs = tt
+
+refuse-requires-4 : tie.Need-refuse-requires-4
+refuse-requires-4 c κs = tt
+
+returns-4 : tie.Need-returns-4
+returns-4 c =
+    let a = c .before .before .before .before .before .before .before .before .args in
+    let kind = c .before .before .before .before .node-kind .ensures .0 in
+    c .refuse4 .ensures ∙ end-required (requestFor (now (a .image)) (a .k)) (a .s) (c .before .if6 .taken) (λ e. c .before .before .before .match .rest .0 .1 (kind ∙ e))
+
 returns-5 : tie.Need-returns-5
-unfolding finish
 returns-5 c =
-    let t = treeOf (now (c .before .before .before .before .before .before .before .before .before .args .image)) in
-    let n = c .before .before .before .before .before .before .before .before .before .args .s .place .node in
-    let nodes = accepted-sound (now (c .before .before .before .before .before .before .before .before .before .args .image)) (c .before .before .before .before .before .before .before .before .before .pre .0 .reading .accepted) .nodes-hold in
-    c .refuse2 .ensures ∙ rw (c .before .before .before .if2 .left, link-kind t nodes n (c .before .before .before .before .before .before .before .before .before .pre .1 .node-below) (λ e. c .before .before .before .before .if1 .left (c .before .before .before .before .before .node-kind .ensures .0 ∙ e)) (λ e. c .before .before .if3 .left (c .before .before .before .before .before .node-kind .ensures .0 ∙ e)), c .before .if4 .left)
+    let a = c .before .before .before .before .before .args in
+    end-directory (requestFor (now (a .image)) (a .k)) (a .s) (c .before .before .before .before .before .pre .1 .node-below) (sym (c .before .node-kind .ensures .0) ∙ c .match .keys1)
+
+returns-6 : tie.Need-returns-6
+returns-6 c =
+    let a = c .before .before .before .before .before .before .args in
+    let kind = c .before .before .node-kind .ensures .0 in
+    let two = c .before .match .keys2 in
+    end-other (requestFor (now (a .image)) (a .k)) (a .s) (c .if1 .left) (λ e. omega (arith, kind, two)) (λ e. omega (arith, kind, two))
+
+returns-7 : tie.Need-returns-7
+returns-7 c =
+    let a = c .before .before .before .before .before .before .before .before .before .before .args in
+    let kind = c .before .before .before .before .before .before .node-kind .ensures .0 in
+    let low = c .before .before .before .before .if2 .left in
+    let high = c .before .before .before .if3 .taken in
+    c .refuse3 .ensures ∙ end-link (requestFor (now (a .image)) (a .k)) (a .s) (c .before .before .if4 .left) (omega (arith, kind, low)) (omega (arith, kind, high)) (c .before .if5 .left)
+
+returns-8 : tie.Need-returns-8
+returns-8 c =
+    let a = c .before .before .before .before .before .before .before .args in
+    let kind = c .before .before .before .node-kind .ensures .0 in
+    let law = end-other (requestFor (now (a .image)) (a .k)) (a .s) (c .if6 .left) in
+    ⊎-elim
+    (λ w. let low = w .taken in law (λ e. omega (arith, kind, low)) (λ e. omega (arith, kind, low)))
+    (λ w. let high = w .1 .left in law (λ e. omega (arith, kind, high)) (λ e. omega (arith, kind, high)))
+    (c .before .if2 .came)
 
 pub finish-spec : {M : Type 1} → statement M
 finish-spec =
     tie.close
     (tie.spec
     node-kind-requires
-    returns
     refuse-requires
+    returns
+    refuse-requires-2
     returns-2
     returns-3
+    refuse-requires-3
+    refuse-requires-4
     returns-4
-    refuse-requires-2
-    returns-5)
+    returns-5
+    returns-6
+    returns-7
+    returns-8)
