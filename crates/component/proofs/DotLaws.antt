@@ -7,10 +7,10 @@ use native.Mathlib.Omega.{arith}
 use borrow.Author.Tests.{eq-eqb, ne-eqb}
 use lib.ListN.{length, getD}
 use Rattle.model.specs.Bytes.{sameBytes, ascii}
-use Rattle.model.specs.Trace.{Restrictions}
+use Rattle.model.specs.Trace.{Restrictions, forbidAny}
 use Rattle.model.specs.Walk.{Request, Step, stayAt, along, goUp, byName, oneComponent}
 use Rattle.model.specs.declared.Place.{Place}
-use Rattle.component.specs.Outcomes.{forbidAny, moveOutcome, outcome, dotsOf}
+use Rattle.component.specs.Outcomes.{moveOutcome, outcome, dotsOf}
 use Rattle.component.specs.declared.Outcome.the-variants.{Go}
 
 pub dots-long : (s : List ℕ) → 2 < length s → dotsOf s ≡ 0

@@ -5,12 +5,12 @@ use mathlib.Core.Path.{_≡_, refl}
 use borrow.Author.Tests.{ltb-true, ltb-false, le-leb, lt-leb}
 use lib.Dec.{ltb, leb}
 use Rattle.model.specs.Path.{absolute}
-use Rattle.model.specs.Trace.{Restrictions, noSymlinks}
+use Rattle.model.specs.Trace.{Restrictions, noSymlinks, forbidAny}
 use Rattle.model.specs.Walk.{Request, Step, magicLink, symbolicLink}
 use Rattle.model.specs.declared.Place.{Place}
 use Rattle.model.specs.declared.Errno.the-variants.{Eloop}
 use Rattle.theorems.proofs.Cases.{cond-cases}
-use Rattle.component.specs.Outcomes.{forbidAny, unlimited, outcome}
+use Rattle.component.specs.Outcomes.{unlimited, outcome}
 use Rattle.component.proofs.RowLaws.{link-row}
 use Rattle.component.specs.declared.Outcome.the-variants.{Stop}
 

@@ -4,12 +4,12 @@ use mathlib.Core.Bool.{Bool, true, false, not, _&&_, _||_, and-false}
 use mathlib.Core.Path.{_≡_, ap, _∙_}
 use borrow.Author.Tests.{ne-eqb}
 use Rattle.model.specs.Tree.{Tree, isLink}
-use Rattle.model.specs.Trace.{Restrictions}
+use Rattle.model.specs.Trace.{Restrictions, forbidAny}
 use Rattle.model.specs.Walk.{Request, placeAt, magicLink, symbolicLink, followLink, stepTo}
 use Rattle.model.specs.declared.Place.{Place}
 use Rattle.theorems.specs.Acceptance.{MountsHold}
 use Rattle.theorems.proofs.EntryLaws.{not-directory}
-use Rattle.component.specs.Outcomes.{forbidAny, outcome}
+use Rattle.component.specs.Outcomes.{outcome}
 use Rattle.component.specs.declared.Outcome.the-variants.{Go}
 use Rattle.component.proofs.EnterLaws.{not-entered}
 

@@ -7,8 +7,7 @@ use lib.Dec.{ltb}
 use Rattle.model.specs.Bytes.{has, sameBytes, ascii}
 use Rattle.model.specs.Tree.{treeOf}
 use Rattle.model.specs.OpenHow.{NO-XDEV, NO-MAGICLINKS, NO-SYMLINKS, BENEATH, IN-ROOT}
-use Rattle.model.specs.Trace.{Restriction, mark, beneath, noXdev, noSymlinks, noMagiclinks, Restrictions}
-unfoldable pub use Rattle.model.specs.Trace.{forbidAny}
+use Rattle.model.specs.Trace.{Restriction, mark, beneath, noXdev, noSymlinks, noMagiclinks, Restrictions, forbidAny}
 use Rattle.model.specs.Walk.{Request, Move, stayAt, climb, atTop, Landing, outside, target, reading, Step, fail, go, follow}
 use Rattle.model.specs.declared.Place.{Place}
 use Rattle.model.specs.declared.Errno.{Errno}

@@ -19,7 +19,8 @@ use Rattle.model.specs.Tree.{treeOf}
 use Rattle.model.specs.Walk.{rootOf, walkPath}
 use Rattle.theorems.proofs.Acceptance.{accepted-sound}
 use Rattle.theorems.proofs.Cases.{cond-cases}
-use Rattle.theorems.proofs.Inside.{Inside, root-inside}
+use Rattle.theorems.specs.Inside.{Inside}
+use Rattle.theorems.proofs.Inside.{root-inside}
 use Rattle.theorems.proofs.Refusals.{unrefused, path-short, handle-inside}
 use Rattle.image.specs.declared.records.Counts.{Counts}
 use Rattle.component.specs.Walking.{Reading, Walking}

@@ -14,7 +14,7 @@ use Rattle.model.specs.Path.{absolute}
 use Rattle.model.specs.Trace.{Event, Escape}
 use Rattle.model.specs.declared.Place.{Place}
 use Rattle.theorems.specs.Acceptance.{Sound}
-pub use Rattle.theorems.specs.Inside.{Inside}
+use Rattle.theorems.specs.Inside.{Inside}
 use Rattle.theorems.proofs.Acceptance.{directory-below, parent-directory, lookup-inside, entry-facts, root-directory, point-directory, mount-parent-below, mount-on-below, target-inside}
 use Rattle.theorems.proofs.Cases.{both, first-of, cond-cases}
 

@@ -23,7 +23,7 @@ use Rattle.model.specs.declared.Errno.the-variants.{Euclean, Einval, E2big, Ena
 use Rattle.model.specs.declared.Verdict.{Verdict}
 use Rattle.model.specs.declared.Verdict.the-variants.{Accepted, Broken}
 use Rattle.theorems.proofs.Cases.{some-not-none, both}
-use Rattle.theorems.proofs.Inside.{Inside}
+use Rattle.theorems.specs.Inside.{Inside}
 
 -- where a chain of checks refuses nothing, no check of it does
 both-none : (a b : Option Refusal) → orElse a b ≡ none → (a ≡ none) × (b ≡ none)

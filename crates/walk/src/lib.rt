@@ -131,8 +131,9 @@ fn read_body<'a>(
     ensures { λ r. ⌜ Leads (now (image .entry)) (now (path .entry)) (now (stack .exit)) (proceed (now (image .entry)) (now (path .entry)) (now (stack .entry)) w (Outcome.Read n p)) r × (length (now (stack .exit)) ≡ length (now (stack .entry))) ⌝ }
 {
     let text = body(image, c, n);
+    let slash = both(last, ends_in_slash(text));
     let start = skip_slashes(text, 0);
-    let state = followed_to(p, both(last, ends_in_slash(text)), w.state);
+    let state = followed_to(p, slash, w.state);
     if start == text.len() {
         let at = w.at;
         let behind = Walk {

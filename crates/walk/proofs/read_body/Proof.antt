@@ -25,14 +25,14 @@ body-requires c κs =
     let nodes = accepted-sound s (pre .0 .reading .accepted) .nodes-hold in
     (pre .0 .reading .counted, pre .2 .2, symlink-facts (treeOf s) nodes (args .n) (pre .2 .2) (pre .2 .3) .0)
 
-skip-slashes-requires : tie.Need-skip-slashes-requires
-skip-slashes-requires c κs = search needs
-
 ends-in-slash-requires : tie.Need-ends-in-slash-requires
 ends-in-slash-requires c κs = search needs
 
 both-requires : tie.Need-both-requires
 both-requires c κs = search needs
+
+skip-slashes-requires : tie.Need-skip-slashes-requires
+skip-slashes-requires c κs = search needs
 
 followed-to-requires : tie.Need-followed-to-requires
 followed-to-requires c κs = search needs
@@ -42,8 +42,8 @@ advance-requires c κs =
     let args = c .before .before .before .before .before .before .before .before .before .before .args in
     let pre = c .before .before .before .before .before .before .before .before .before .before .pre in
     let body = c .before .before .before .before .before .before .body in
-    let ends-in-slash = c .before .before .before .before .ends-in-slash in
-    let both = c .before .before .before .both in
+    let ends-in-slash = c .before .before .before .before .before .ends-in-slash in
+    let both = c .before .before .before .before .both in
     let followed-to = c .before .before .followed-to in
     let s = now (args .image) in
     let slash = slashOf s (now (args .path)) (now (args .stack)) (args .w) (args .n) in
@@ -59,9 +59,9 @@ returns c =
     let args = c .before .before .before .before .before .before .before .before .before .before .before .args in
     let pre = c .before .before .before .before .before .before .before .before .before .before .before .pre in
     let body = c .before .before .before .before .before .before .before .body in
-    let skip-slashes = c .before .before .before .before .before .before .skip-slashes in
-    let ends-in-slash = c .before .before .before .before .before .ends-in-slash in
-    let both = c .before .before .before .before .both in
+    let skip-slashes = c .before .before .before .before .skip-slashes in
+    let ends-in-slash = c .before .before .before .before .before .before .ends-in-slash in
+    let both = c .before .before .before .before .before .both in
     let followed-to = c .before .before .before .followed-to in
     let if1 = c .before .before .if1 in
     let s = now (args .image) in
@@ -86,9 +86,9 @@ returns-2 c =
     let args = c .before .before .before .before .before .before .before .before .before .before .before .before .before .args in
     let pre = c .before .before .before .before .before .before .before .before .before .before .before .before .before .pre in
     let body = c .before .before .before .before .before .before .before .before .before .body in
-    let skip-slashes = c .before .before .before .before .before .before .before .before .skip-slashes in
-    let ends-in-slash = c .before .before .before .before .before .before .before .ends-in-slash in
-    let both = c .before .before .before .before .before .before .both in
+    let skip-slashes = c .before .before .before .before .before .before .skip-slashes in
+    let ends-in-slash = c .before .before .before .before .before .before .before .before .ends-in-slash in
+    let both = c .before .before .before .before .before .before .before .both in
     let followed-to = c .before .before .before .before .before .followed-to in
     let if1 = c .before .before .before .before .if1 in
     let enter-body = c .before .before .enter-body in
@@ -114,9 +114,9 @@ read-body-spec =
     tie.close
     (tie.spec
     body-requires
-    skip-slashes-requires
     ends-in-slash-requires
     both-requires
+    skip-slashes-requires
     followed-to-requires
     advance-requires
     same-length

@@ -11,7 +11,8 @@ use Rattle.model.specs.Tree.{treeOf}
 use Rattle.model.specs.Walk.{placeAt, magicLink}
 use Rattle.component.specs.declared.Outcome.the-variants.{Target}
 use Rattle.component.proofs.RowLaws.{link-row, magic-row}
-use Rattle.component.specs.Outcomes.{restrictionsFor, forbidAny}
+use Rattle.model.specs.Trace.{forbidAny}
+use Rattle.component.specs.Outcomes.{restrictionsFor}
 use Rattle.component.proofs.links.follow_magic.Statement.{statement}
 use Rattle.component.proofs.links.follow_magic.Tie as tie
 

@@ -12,7 +12,8 @@ use Rattle.model.specs.Walk.{symbolicLink}
 use Rattle.theorems.proofs.Acceptance.{accepted-sound, symlink-facts}
 use Rattle.component.proofs.LimitLaws.{barred-link}
 use Rattle.component.proofs.RowLaws.{link-row, jump-row}
-use Rattle.component.specs.Outcomes.{requestFor, restrictionsFor, forbidAny}
+use Rattle.model.specs.Trace.{forbidAny}
+use Rattle.component.specs.Outcomes.{requestFor, restrictionsFor}
 use Rattle.component.proofs.links.follow_symbolic.Statement.{statement}
 use Rattle.component.proofs.links.follow_symbolic.Tie as tie
 

@@ -3,9 +3,8 @@ use borrow.Author.Needs.{needs}
 use mathlib.Core.Path.{_∙_, sym}
 use borrow.Author.Tests.{not-true, not-false}
 use native.Mathlib.Omega.{arith}
-use Rattle.model.specs.Trace.{forbids, row, firstSet}
+use Rattle.model.specs.Trace.{forbids, row, firstSet, forbidAny}
 use Rattle.model.specs.Walk.{goUp}
-use Rattle.component.specs.Outcomes.{forbidAny}
 use Rattle.component.proofs.moves.go_up.Statement.{statement}
 use Rattle.component.proofs.moves.go_up.Tie as tie
 

@@ -6,7 +6,7 @@ use mathlib.Core.Path.{_≡_, ap, _∙_, sym}
 use denote.Ref.{now}
 use Rattle.model.specs.Tree.{treeOf}
 use Rattle.model.specs.Walk.{placeAt, samePlace, rootOf, atTop}
-use Rattle.component.specs.Outcomes.{forbidAny}
+use Rattle.model.specs.Trace.{forbidAny}
 use Rattle.component.proofs.moves.up_from.Statement.{statement}
 use Rattle.component.proofs.moves.up_from.Tie as tie
 
