@@ -64,10 +64,10 @@ abbrev pub orElse {ℓ} : {A : Type ℓ} → Option A → Option A → Option A
 orElse none later = later
 orElse (some a) later = some a
 
--- a list, where nothing forestalls it
-abbrev pub unless {ℓ} : {A B : Type ℓ} → Option A → List B → List B
-unless none later = later
-unless (some a) later = []
+-- a list, where there is no answer before it
+abbrev pub ifNone {ℓ} : {A B : Type ℓ} → Option A → List B → List B
+ifNone none later = later
+ifNone (some a) later = []
 
 -- the bytes of a text in ASCII
 unfoldable pub ascii : String → List ℕ

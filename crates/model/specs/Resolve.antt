@@ -3,7 +3,7 @@ use Prim.Native.Nat.{ℕ}
 use mathlib.Core.Bool.{Bool, true, false, cond, not, _||_}
 use mathlib.Core.List.{List, []}
 use mathlib.Core.Option.{Option, none, some}
-use Rattle.model.specs.Bytes.{has, orElse, unless}
+use Rattle.model.specs.Bytes.{has, orElse, ifNone}
 use Rattle.model.specs.Tree.{treeOf}
 use Rattle.model.specs.Answers.{refusal, notWalked}
 use Rattle.model.specs.TableCheck.{tableCheck}
@@ -69,4 +69,4 @@ resolve image h path how =
 -- the places that a call's walk stands on; a call refused before the walk stands on none
 unfoldable pub placesOf : List ℕ → Handle → List ℕ → List ℕ → List Place
 placesOf image h path how =
-    unless (refusedBefore image h path how) (stoodOn (restrictions h how) (traceOf image h path how))
+    ifNone (refusedBefore image h path how) (stoodOn (restrictions h how) (traceOf image h path how))

@@ -4,7 +4,7 @@ use mathlib.Core.Bool.{Bool, true, false, cond}
 use mathlib.Core.List.{List, [], _∷_, _++_}
 use mathlib.Core.Option.{Option, none, some}
 use Rattle.model.specs.Answers.{refused}
-use Rattle.model.specs.Bytes.{orElse, unless}
+use Rattle.model.specs.Bytes.{orElse, ifNone}
 use Rattle.model.specs.declared.Place.{Place}
 use Rattle.model.specs.declared.Progress.{Progress}
 use Rattle.model.specs.declared.Errno.{Errno}
@@ -83,4 +83,4 @@ answer R (meet e p later) = refusedBy (forbids R e) p (answer R later)
 unfoldable pub stoodOn : Restrictions → Trace → List Place
 stoodOn R (stop a) = []
 stoodOn R (stand p later) = p ∷ stoodOn R later
-stoodOn R (meet e p later) = unless (forbids R e) (stoodOn R later)
+stoodOn R (meet e p later) = ifNone (forbids R e) (stoodOn R later)

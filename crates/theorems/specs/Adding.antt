@@ -8,7 +8,7 @@ use mathlib.Core.Path.{_≡_}
 use lib.Bits.{bitOr}
 use lib.ListN.{length, getD, set}
 use lib.Dec.{ltb}
-use Rattle.model.specs.Bytes.{has, isSome, unless}
+use Rattle.model.specs.Bytes.{has, isSome, ifNone}
 use Rattle.model.specs.Tree.{treeOf}
 use Rattle.model.specs.TableCheck.{tableCheck}
 use Rattle.model.specs.OpenHow.{resolveOf, NO-XDEV, NO-MAGICLINKS, NO-SYMLINKS, BENEATH, IN-ROOT}
@@ -66,7 +66,7 @@ meetings R (meet e p later) = onward (forbids R e) (e, p) (meetings R later)
 -- meets none."
 unfoldable pub eventsOf : List ℕ → Handle → List ℕ → List ℕ → List Meeting
 eventsOf image h path how =
-    unless (refusedBefore image h path how) (meetings (restrictions h how) (traceOf image h path how))
+    ifNone (refusedBefore image h path how) (meetings (restrictions h how) (traceOf image h path how))
 
 -- "the first event of that walk that an added one forbids"
 unfoldable pub firstForbidden : Restrictions → List Meeting → Option Meeting
