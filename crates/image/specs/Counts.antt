@@ -2,12 +2,12 @@
 use Prim.Native.Nat.{ℕ, _^_, _<_}
 use mathlib.Core.List.{List}
 use mathlib.Core.Path.{_≡_}
-use Rattle.model.specs.Tree.{treeOf}
+use Rattle.model.specs.Tree.{sizesOf, treeOf}
 use Rattle.theorems.specs.Acceptance.{Sized}
 use Rattle.image.specs.declared.records.Counts.{Counts}
 
 abbrev pub countsOf : List ℕ → Counts
-countsOf s = record { nodes = treeOf s .nodes; mounts = treeOf s .mounts; entries = treeOf s .entries }
+countsOf s = record { nodes = sizesOf s .nodes; mounts = sizesOf s .mounts; entries = sizesOf s .entries }
 
 -- an image whose sizes fit (rules 1 and 3), with its counts
 pub record Counted (s : List ℕ) (c : Counts) : Type 0 where

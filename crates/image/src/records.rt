@@ -5,7 +5,7 @@ use fields::u32_at;
 ghost use mathlib.Core.Path.{_≡_};
 ghost use Prim.Native.Nat.{ℕ, _+_, _*_, _^_, _≤_, _<_};
 ghost use lib.ListN.{length};
-ghost use Rattle.model.specs.Tree.{treeOf, nodeAt, mountAt, entryAt, textAt};
+ghost use Rattle.model.specs.Tree.{sizesOf, mountsAt, entriesAt, textAt, treeOf};
 ghost use Rattle.theorems.specs.Acceptance.{Sized};
 ghost use Rattle.image.specs.Counts.{countsOf, Counted};
 
@@ -37,7 +37,7 @@ pub fn text_length(image: &[u8]) -> usize
 // Where a node's record begins.
 fn node_at(image: &[u8], n: usize) -> usize
     requires { ⌜ Sized (now image) × (n < treeOf (now image) .nodes) ⌝ }
-    ensures { λ r. ⌜ (r ≡ nodeAt n) × (r + 12 ≤ length (now (image .entry))) ⌝ }
+    ensures { λ r. ⌜ (r ≡ 20 + 12 * n) × (r + 12 ≤ length (now (image .entry))) ⌝ }
 {
     20 + 12 * n
 }
@@ -45,7 +45,7 @@ fn node_at(image: &[u8], n: usize) -> usize
 // Where a mount's record begins.
 fn mount_at(image: &[u8], c: Counts, m: usize) -> usize
     requires { ⌜ Counted (now image) c × (m < treeOf (now image) .mounts) ⌝ }
-    ensures { λ r. ⌜ (r ≡ mountAt (now (image .entry)) m) × (r + 8 ≤ length (now (image .entry))) ⌝ }
+    ensures { λ r. ⌜ (r ≡ mountsAt (sizesOf (now (image .entry))) + 8 * m) × (r + 8 ≤ length (now (image .entry))) ⌝ }
 {
     20 + 12 * c.nodes + 8 * m
 }
@@ -53,7 +53,7 @@ fn mount_at(image: &[u8], c: Counts, m: usize) -> usize
 // Where an entry's record begins.
 fn entry_at(image: &[u8], c: Counts, e: usize) -> usize
     requires { ⌜ Counted (now image) c × (e < treeOf (now image) .entries) ⌝ }
-    ensures { λ r. ⌜ (r ≡ entryAt (now (image .entry)) e) × (r + 8 ≤ length (now (image .entry))) ⌝ }
+    ensures { λ r. ⌜ (r ≡ entriesAt (sizesOf (now (image .entry))) + 8 * e) × (r + 8 ≤ length (now (image .entry))) ⌝ }
 {
     20 + 12 * c.nodes + 8 * c.mounts + 8 * e
 }
@@ -61,7 +61,7 @@ fn entry_at(image: &[u8], c: Counts, e: usize) -> usize
 // Where the text begins.
 pub fn text_at(image: &[u8], c: Counts) -> usize
     requires { ⌜ Counted (now image) c ⌝ }
-    ensures { λ r. ⌜ (r ≡ textAt (now (image .entry))) × (r + treeOf (now (image .entry)) .textLength ≡ length (now (image .entry))) ⌝ }
+    ensures { λ r. ⌜ (r ≡ textAt (sizesOf (now (image .entry)))) × (r + treeOf (now (image .entry)) .textLength ≡ length (now (image .entry))) ⌝ }
 {
     20 + 12 * c.nodes + 8 * c.mounts + 8 * c.entries
 }

@@ -7,7 +7,7 @@ use mathlib.Core.Option.{Option, none, some}
 use lib.Dec.{eqb, ltb, leb}
 use lib.ListN.{length, take}
 use Rattle.model.specs.Bytes.{field, contains, sameBytes, before, find, firstFailing, isSome, orElse, ascii}
-use Rattle.model.specs.Tree.{Tree, treeOf, textAt, byKind, isDirectory, holds, under}
+use Rattle.model.specs.Tree.{Tree, Sizes, sizesOf, treeOf, byKind, isDirectory, holds, under}
 use Rattle.model.specs.declared.Verdict.{Verdict}
 use Rattle.model.specs.declared.Verdict.the-variants.{Accepted, Broken}
 
@@ -25,15 +25,15 @@ unfoldable pub rule2 : List ℕ → Option ℕ
 rule2 s = unless (sameBytes (take 4 s) (ascii "TOC1") && eqb (field 2 s 10) 0) 0
 
 -- "3. N 1 to 4,096, M 1 to 256, E 0 to 4,096; total length = 20 + 12N + 8M + 8E + T = image length."
-unfoldable pub countsFit : Tree → Bool
-countsFit t = leb 1 (t .nodes) && leb (t .nodes) 4096 && leb 1 (t .mounts) && leb (t .mounts) 256 && leb (t .entries) 4096
+unfoldable pub countsFit : Sizes → Bool
+countsFit c = leb 1 (c .nodes) && leb (c .nodes) 4096 && leb 1 (c .mounts) && leb (c .mounts) 256 && leb (c .entries) 4096
 
-unfoldable pub wholeLength : Tree → ℕ
-wholeLength t = 20 + 12 * t .nodes + 8 * t .mounts + 8 * t .entries + t .textLength
+unfoldable pub wholeLength : Sizes → ℕ
+wholeLength c = 20 + 12 * c .nodes + 8 * c .mounts + 8 * c .entries + c .text
 
 unfoldable pub rule3 : List ℕ → Option ℕ
 rule3 s =
-    unless (countsFit (treeOf s) && eqb (field 4 s 16) (wholeLength (treeOf s)) && eqb (length s) (wholeLength (treeOf s))) 0
+    unless (countsFit (sizesOf s) && eqb (field 4 s 16) (wholeLength (sizesOf s)) && eqb (length s) (wholeLength (sizesOf s))) 0
 
 -- a directory's count, and 0 for other kinds
 unfoldable pub directoryCount : Tree → ℕ → ℕ

@@ -1,5 +1,5 @@
--- "The table image": the tree that an image stands for. The rules and the walk speak of a tree alone, so that where its
--- fields stand in the bytes is said here and nowhere else.
+-- "The table image": an image is a header and four parts, and stands for a tree. The rules and the walk speak of a tree alone, so that
+-- where its fields stand in the bytes is said here and nowhere else.
 use Prim.Native.Nat.{ℕ, zero, suc, _+_, _-_, _*_}
 use mathlib.Core.Bool.{Bool, cond, _&&_, _||_}
 use mathlib.Core.List.{List}
@@ -7,6 +7,40 @@ use mathlib.Core.Option.{Option}
 use lib.Dec.{eqb, ltb, leb}
 use Rattle.model.specs.Bytes.{field, part, find, sameBytes, isSome}
 use Rattle.model.specs.declared.Place.{Place}
+
+-- The header's counts N, M, E and text length T.
+pub record Sizes : Type 0 where
+  pub nodes : ℕ
+  pub mounts : ℕ
+  pub entries : ℕ
+  pub text : ℕ
+
+-- "Then u16 counts of nodes N, mounts M, entries E; u16 zero; u32 text length T; u32 total length: 20 bytes."
+unfoldable pub sizesOf : List ℕ → Sizes
+sizesOf s = record { nodes = field 2 s 4; mounts = field 2 s 6; entries = field 2 s 8; text = field 4 s 12 }
+
+-- "Bodies in order: N node records of 12 bytes, M mounts of 8, E entries of 8, T text bytes": where each begins
+abbrev pub mountsAt : Sizes → ℕ
+mountsAt c = 20 + 12 * c .nodes
+
+abbrev pub entriesAt : Sizes → ℕ
+entriesAt c = mountsAt c + 8 * c .mounts
+
+abbrev pub textAt : Sizes → ℕ
+textAt c = entriesAt c + 8 * c .entries
+
+-- the four parts of an image whose header has these sizes
+unfoldable pub nodesPart : Sizes → List ℕ → List ℕ
+nodesPart c s = part s 20 (12 * c .nodes)
+
+unfoldable pub mountsPart : Sizes → List ℕ → List ℕ
+mountsPart c s = part s (mountsAt c) (8 * c .mounts)
+
+unfoldable pub entriesPart : Sizes → List ℕ → List ℕ
+entriesPart c s = part s (entriesAt c) (8 * c .entries)
+
+unfoldable pub textPart : Sizes → List ℕ → List ℕ
+textPart c s = part s (textAt c) (c .text)
 
 -- The counts N, M, E, the text length T, and what each record says, by its number.
 pub record Tree : Type 0 where
@@ -31,43 +65,36 @@ pub record Tree : Type 0 where
   pub name : ℕ → List ℕ
   pub entryNode : ℕ → ℕ
 
--- "Bodies in order: N node records of 12 bytes, M mounts of 8, E entries of 8, T text bytes": where each begins
-abbrev pub nodeAt : ℕ → ℕ
-nodeAt n = 20 + 12 * n
-
-unfoldable pub mountAt : List ℕ → ℕ → ℕ
-mountAt s m = nodeAt (field 2 s 4) + 8 * m
-
-unfoldable pub entryAt : List ℕ → ℕ → ℕ
-entryAt s e = mountAt s (field 2 s 6) + 8 * e
-
-unfoldable pub textAt : List ℕ → ℕ
-textAt s = entryAt s (field 2 s 8)
-
--- "Then u16 counts of nodes N, mounts M, entries E; u16 zero; u32 text length T; u32 total length: 20 bytes."
--- "Node: u16 kind, u16 parent, u32 first, u32 count."
--- "Mount: u16 root node, u16 parent mount, u16 mount point node, u16 zero."
--- "Entry: u32 name offset, u16 name length, u16 node."
-unfoldable pub treeOf : List ℕ → Tree
-treeOf s = record {
-  nodes = field 2 s 4;
-  mounts = field 2 s 6;
-  entries = field 2 s 8;
-  textLength = field 4 s 12;
-  kind = λ n. field 2 s (nodeAt n);
-  parent = λ n. field 2 s (nodeAt n + 2);
-  first = λ n. field 4 s (nodeAt n + 4);
-  count = λ n. field 4 s (nodeAt n + 8);
-  body = λ n. part s (textAt s + field 4 s (nodeAt n + 4)) (field 4 s (nodeAt n + 8));
-  mountRoot = λ m. field 2 s (mountAt s m);
-  mountParent = λ m. field 2 s (mountAt s m + 2);
-  mountPoint = λ m. field 2 s (mountAt s m + 4);
-  mountZero = λ m. field 2 s (mountAt s m + 6);
-  nameOffset = λ e. field 4 s (entryAt s e);
-  nameLength = λ e. field 2 s (entryAt s e + 4);
-  name = λ e. part s (textAt s + field 4 s (entryAt s e)) (field 2 s (entryAt s e + 4));
-  entryNode = λ e. field 2 s (entryAt s e + 6);
+-- "Node: u16 kind, u16 parent, u32 first, u32 count.", 12 bytes; "Mount: u16 root node, u16 parent mount, u16 mount point node, u16
+-- zero.", 8 bytes; "Entry: u32 name offset, u16 name length, u16 node.", 8 bytes: the tree that counts, node, mount and entry records
+-- and a text stand for
+abbrev pub treeOfParts : Sizes → List ℕ → List ℕ → List ℕ → List ℕ → Tree
+treeOfParts c nodes mounts entries text = record {
+  nodes = c .nodes;
+  mounts = c .mounts;
+  entries = c .entries;
+  textLength = c .text;
+  kind = λ n. field 2 nodes (12 * n);
+  parent = λ n. field 2 nodes (12 * n + 2);
+  first = λ n. field 4 nodes (12 * n + 4);
+  count = λ n. field 4 nodes (12 * n + 8);
+  body = λ n. part text (field 4 nodes (12 * n + 4)) (field 4 nodes (12 * n + 8));
+  mountRoot = λ m. field 2 mounts (8 * m);
+  mountParent = λ m. field 2 mounts (8 * m + 2);
+  mountPoint = λ m. field 2 mounts (8 * m + 4);
+  mountZero = λ m. field 2 mounts (8 * m + 6);
+  nameOffset = λ e. field 4 entries (8 * e);
+  nameLength = λ e. field 2 entries (8 * e + 4);
+  name = λ e. part text (field 4 entries (8 * e)) (field 2 entries (8 * e + 4));
+  entryNode = λ e. field 2 entries (8 * e + 6);
 }
+
+-- the tree that an image stands for
+abbrev pub treeBy : Sizes → List ℕ → Tree
+treeBy c s = treeOfParts c (nodesPart c s) (mountsPart c s) (entriesPart c s) (textPart c s)
+
+unfoldable pub treeOf : List ℕ → Tree
+treeOf s = treeBy (sizesOf s) s
 
 -- "Kind 1 directory .. 2 file. 3 symbolic link .. 4 magic link": one case for each kind number, and one for the others
 abbrev pub byKind {ℓ} : {A : Type ℓ} → ℕ → A → A → A → A → A → A

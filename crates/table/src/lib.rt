@@ -17,7 +17,7 @@ ghost use Prim.Native.Nat.{ℕ, _^_, _≤_, _<_};
 ghost use lib.Dec.{eqb};
 ghost use lib.ListN.{length, take};
 ghost use Rattle.model.specs.Bytes.{field, sameBytes, ascii};
-ghost use Rattle.model.specs.Tree.{treeOf};
+ghost use Rattle.model.specs.Tree.{sizesOf, treeOf};
 ghost use Rattle.model.specs.TableCheck.{countsFit, wholeLength, recordsCheck, tableCheck};
 ghost use Rattle.image.specs.Counts.{Counted, countsOf};
 
@@ -34,8 +34,8 @@ fn is_signed(image: &[u8]) -> bool
 
 // Rule 3.
 fn sizes_fit(image: &[u8], c: Counts, text: usize) -> bool
-    requires { ⌜ (20 ≤ length (now image)) × (c ≡ countsOf (now image)) × (text ≡ treeOf (now image) .textLength) × (text < 2 ^ 32) ⌝ }
-    ensures { λ r. ⌜ r ≡ countsFit (treeOf (now (image .entry))) && eqb (field 4 (now (image .entry)) 16) (wholeLength (treeOf (now (image .entry)))) && eqb (length (now (image .entry))) (wholeLength (treeOf (now (image .entry)))) ⌝ }
+    requires { ⌜ (20 ≤ length (now image)) × (c ≡ countsOf (now image)) × (text ≡ sizesOf (now image) .text) × (text < 2 ^ 32) ⌝ }
+    ensures { λ r. ⌜ r ≡ countsFit (sizesOf (now (image .entry))) && eqb (field 4 (now (image .entry)) 16) (wholeLength (sizesOf (now (image .entry)))) && eqb (length (now (image .entry))) (wholeLength (sizesOf (now (image .entry)))) ⌝ }
 {
     if c.nodes == 0 {
         return false;

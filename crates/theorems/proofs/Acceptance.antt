@@ -11,7 +11,7 @@ use lib.Dec.{eqb, ltb, leb}
 use lib.ListN.{length, length-take, length-drop}
 use borrow.Author.Tests.{ltb-true, leb-true, eqb-true, eq-eqb, not-true}
 use Rattle.model.specs.Bytes.{contains, sameBytes, ascii, part, firstFailing, orElse}
-use Rattle.model.specs.Tree.{Tree, treeOf, mountAt, entryAt, textAt, isDirectory, lookup, under, mountOn}
+use Rattle.model.specs.Tree.{Tree, sizesOf, textPart, treeOf, isDirectory, lookup, under, mountOn}
 use Rattle.model.specs.TableCheck.{unless, rule1, rule2, rule3, countsFit, wholeLength, directoryCount, countsBefore, directoryHolds, symlinkHolds, nodeHolds, rule4, nameHolds, ascends, standsInParent, entryHolds, rule5, pointHolds, sharesPoint, hangs, mountHolds, rule6, targetHolds, magicTargetHolds, rule7, breaks, recordsCheck, tableCheck}
 use Rattle.model.specs.declared.Place.{Place}
 use Rattle.model.specs.declared.Verdict.{Verdict}
@@ -19,6 +19,7 @@ use Rattle.model.specs.declared.Verdict.the-variants.{Accepted}
 use Rattle.theorems.specs.Acceptance.{Sized, NodesHold, MountsHold, Sound}
 use Rattle.theorems.proofs.ByteLaws.{firstFailing-none, find-some}
 use Rattle.theorems.proofs.Cases.{some-not-none, both}
+use Rattle.theorems.proofs.PartLaws.{part-whole, text-length}
 
 unbroken : (rule : ℕ) (o : Option ℕ) (later : Verdict) → breaks rule o later ≡ Accepted → (o ≡ none) × (later ≡ Accepted)
 unbroken rule none later e = (refl, e)
@@ -49,7 +50,7 @@ unbroken-records t e =
     record { four = r4 .0; five = r5 .0; six = r6 .0; seven = r7 .0 }
 
 pub rules-sized : (s : List ℕ) → rule1 s ≡ none → rule3 s ≡ none → Sized s
-unfolding rule1 rule3 countsFit wholeLength
+unfolding rule1 rule3 countsFit wholeLength treeOf
 rules-sized s e1 e3 =
     let t = treeOf s in
     let l = both (leb 20 (length s)) _ (passed _ 0 e1) in
@@ -277,20 +278,12 @@ module _ (t : Tree) (sound : Sound t) where
   body-small n h k = le-trans (sound .body-length n) (symlink-facts t (sound .nodes-hold) n h k .2)
 
 -- a name or a body that lies inside the text has its full length
-part-whole : (s : List ℕ) (at count : ℕ) → at + count ≤ length s → length (part s at count) ≡ count
-unfolding part
-part-whole s at count h = simp (length-take, length-drop) (omega arith)
-
-text-end : (s : List ℕ) → Sized s → textAt s + treeOf s .textLength ≡ length s
-unfolding textAt entryAt mountAt treeOf
-text-end s z = omega (arith, z .whole)
-
 pub name-whole : (s : List ℕ) (e : ℕ) → Sized s → treeOf s .nameOffset e + treeOf s .nameLength e ≤ treeOf s .textLength
     → length (treeOf s .name e) ≡ treeOf s .nameLength e
 unfolding treeOf
-name-whole s e z h = part-whole s _ _ (omega (arith, text-end s z))
+name-whole s e z h = part-whole (textPart (sizesOf s) s) _ _ (omega (arith, text-length s z))
 
 pub body-whole : (s : List ℕ) (n : ℕ) → Sized s → treeOf s .first n + treeOf s .count n ≤ treeOf s .textLength
     → length (treeOf s .body n) ≡ treeOf s .count n
 unfolding treeOf
-body-whole s n z h = part-whole s _ _ (omega (arith, text-end s z))
+body-whole s n z h = part-whole (textPart (sizesOf s) s) _ _ (omega (arith, text-length s z))

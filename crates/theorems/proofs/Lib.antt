@@ -3,6 +3,7 @@ pub mod Cases
 pub mod ByteLaws
 pub mod BitLaws
 pub mod StringLaws
+pub mod PartLaws
 pub mod Acceptance
 pub mod UnderLaws
 pub mod EntryLaws

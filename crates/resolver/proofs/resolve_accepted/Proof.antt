@@ -11,6 +11,7 @@ use Rattle.theorems.proofs.Acceptance.{accepted-sized}
 use Rattle.image.specs.Counts.{Counted}
 use Rattle.open_how.specs.Checks.{fieldsOf}
 use Rattle.call.proofs.CallLaws.{accepted-call}
+use Rattle.image.proofs.CountLaws.{counted}
 use Rattle.resolver.proofs.CallLaws.{walks-none, refused-some, walked, walking-of, refused-call}
 use Rattle.resolver.proofs.resolve_accepted.Statement.{statement}
 use Rattle.resolver.proofs.resolve_accepted.Tie as tie
@@ -25,8 +26,8 @@ check-call-requires c κs =
     let how = now (c .before .before .before .before .args .how) in
     let h = c .before .before .before .before .args .h in
     let r = c .read-counts .ensures in
-    let counted : Counted s (c .read-counts .result) = record { sized = accepted-sized s (c .before .before .before .before .pre); nodes-are = ap (λ x. x .nodes) r; mounts-are = ap (λ x. x .mounts) r; entries-are = ap (λ x. x .entries) r } in
-    (counted, c .before .before .before .before .pre)
+    let counts : Counted s (c .read-counts .result) = counted (accepted-sized s (c .before .before .before .before .pre)) r in
+    (counts, c .before .before .before .before .pre)
 
 enum-known-read : tie.Need-enum-known-read
 enum-known-read c = search needs
@@ -41,8 +42,8 @@ ask-requires c κs =
     let how = now (c .before .before .before .before .before .before .before .before .before .args .how) in
     let h = c .before .before .before .before .before .before .before .before .before .args .h in
     let r = c .before .before .before .before .before .read-counts .ensures in
-    let counted : Counted s (c .before .before .before .before .before .read-counts .result) = record { sized = accepted-sized s (c .before .before .before .before .before .before .before .before .before .pre); nodes-are = ap (λ x. x .nodes) r; mounts-are = ap (λ x. x .mounts) r; entries-are = ap (λ x. x .entries) r } in
-    record { counted = counted; accepted = c .before .before .before .before .before .before .before .before .before .pre }
+    let counts : Counted s (c .before .before .before .before .before .read-counts .result) = counted (accepted-sized s (c .before .before .before .before .before .before .before .before .before .pre)) r in
+    record { counted = counts; accepted = c .before .before .before .before .before .before .before .before .before .pre }
 
 needs-directory-requires : tie.Need-needs-directory-requires
 needs-directory-requires c κs = search needs
@@ -54,9 +55,9 @@ walk-path-requires c κs =
     let how = now (c .before .before .before .before .before .before .before .before .before .before .before .args .how) in
     let h = c .before .before .before .before .before .before .before .before .before .before .before .args .h in
     let r = c .before .before .before .before .before .before .before .read-counts .ensures in
-    let counted : Counted s (c .before .before .before .before .before .before .before .read-counts .result) = record { sized = accepted-sized s (c .before .before .before .before .before .before .before .before .before .before .before .pre); nodes-are = ap (λ x. x .nodes) r; mounts-are = ap (λ x. x .mounts) r; entries-are = ap (λ x. x .entries) r } in
+    let counts : Counted s (c .before .before .before .before .before .before .before .read-counts .result) = counted (accepted-sized s (c .before .before .before .before .before .before .before .before .before .before .before .pre)) r in
     let b = walks-none (refusedBefore s h path how) (fieldsOf how) (c .before .before .before .before .read .given .0 .0) (sym (accepted-call s h path how (c .before .before .before .before .before .before .before .before .before .before .before .pre)) ∙ sym (c .before .before .before .before .before .before .check-call .ensures) ∙ c .before .before .before .before .read .given .1) in
-    walking-of s h path how (c .before .before .before .before .before .before .before .read-counts .result) (c .before .before .before .before .read .given .0 .0) (c .before .before .ends-in-slash .result) (c .before .ask .result) (record { counted = counted; accepted = c .before .before .before .before .before .before .before .before .before .before .before .pre }) (b .0) (c .before .ask .ensures)
+    walking-of s h path how (c .before .before .before .before .before .before .before .read-counts .result) (c .before .before .before .before .read .given .0 .0) (c .before .before .ends-in-slash .result) (c .before .ask .result) (record { counted = counts; accepted = c .before .before .before .before .before .before .before .before .before .before .before .pre }) (b .0) (c .before .ask .ensures)
 
 enum-known-read-2 : tie.Need-enum-known-read-2
 enum-known-read-2 c = search needs

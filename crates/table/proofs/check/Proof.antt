@@ -7,8 +7,10 @@ use native.Mathlib.Omega.{arith}
 use borrow.Author.Tests.{le-leb, lt-leb, not-true, not-false}
 use lib.ListN.{length}
 use denote.Ref.{now}
+use Rattle.model.specs.Tree.{treeOf}
 use Rattle.model.specs.TableCheck.{rule1, rule2, rule3, tableCheck}
 use Rattle.theorems.proofs.Acceptance.{rules-sized}
+use Rattle.image.proofs.CountLaws.{counted}
 use Rattle.table.proofs.check.Statement.{statement}
 use Rattle.table.proofs.check.Tie as tie
 
@@ -34,6 +36,7 @@ text-length-requires : tie.Need-text-length-requires
 text-length-requires c κs = search needs
 
 sizes-fit-requires : tie.Need-sizes-fit-requires
+unfolding treeOf
 sizes-fit-requires c κs = (omega arith, c .before .read-counts .ensures, c .text-length .ensures .0, c .text-length .ensures .1)
 
 returns-4 : tie.Need-returns-4
@@ -47,7 +50,7 @@ check-records-requires c κs =
     let e1 : rule1 s ≡ none = rw (le-leb 20 (length s) (omega arith), le-leb (length s) 65536 (omega arith)) in
     let e3 : rule3 s ≡ none = rw (sym (c .before .sizes-fit .ensures) ∙ not-false _ (c .if4 .left)) in
     let r = c .before .before .before .read-counts .ensures in
-    (record { sized = rules-sized s e1 e3; nodes-are = ap (λ x. x .nodes) r; mounts-are = ap (λ x. x .mounts) r; entries-are = ap (λ x. x .entries) r }, c .before .before .text-length .ensures .0)
+    (counted (rules-sized s e1 e3) r, c .before .before .text-length .ensures .0)
 
 returns-5 : tie.Need-returns-5
 unfolding tableCheck rule1 rule2 rule3

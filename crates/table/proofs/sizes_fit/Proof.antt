@@ -9,7 +9,7 @@ use lib.Dec.{eqb}
 use lib.ListN.{length}
 use denote.Ref.{now}
 use Rattle.model.specs.Bytes.{field}
-use Rattle.model.specs.Tree.{treeOf}
+use Rattle.model.specs.Tree.{sizesOf}
 use Rattle.model.specs.TableCheck.{countsFit, wholeLength}
 use Rattle.table.proofs.WholeLaws.{whole-is}
 use Rattle.table.proofs.sizes_fit.Statement.{statement}
@@ -17,23 +17,23 @@ use Rattle.table.proofs.sizes_fit.Tie as tie
 
 returns : tie.Need-returns
 unfolding countsFit
-returns c = let t = treeOf (now (c .before .before .before .args .image)) in rw (lt-leb 1 (t .nodes) (omega (arith, ap (λ x. x .nodes) (c .before .before .before .pre .1))))
+returns c = let t = sizesOf (now (c .before .before .before .args .image)) in rw (lt-leb 1 (t .nodes) (omega (arith, ap (λ x. x .nodes) (c .before .before .before .pre .1))))
 
 returns-2 : tie.Need-returns-2
 unfolding countsFit
-returns-2 c = let t = treeOf (now (c .before .before .before .before .before .args .image)) in simp (lt-leb (t .nodes) 4096 (omega (arith, ap (λ x. x .nodes) (c .before .before .before .before .before .pre .1))), and-false)
+returns-2 c = let t = sizesOf (now (c .before .before .before .before .before .args .image)) in simp (lt-leb (t .nodes) 4096 (omega (arith, ap (λ x. x .nodes) (c .before .before .before .before .before .pre .1))), and-false)
 
 returns-3 : tie.Need-returns-3
 unfolding countsFit
-returns-3 c = let t = treeOf (now (c .before .before .before .before .before .before .before .args .image)) in simp (lt-leb 1 (t .mounts) (omega (arith, ap (λ x. x .mounts) (c .before .before .before .before .before .before .before .pre .1))), and-false)
+returns-3 c = let t = sizesOf (now (c .before .before .before .before .before .before .before .args .image)) in simp (lt-leb 1 (t .mounts) (omega (arith, ap (λ x. x .mounts) (c .before .before .before .before .before .before .before .pre .1))), and-false)
 
 returns-4 : tie.Need-returns-4
 unfolding countsFit
-returns-4 c = let t = treeOf (now (c .before .before .before .before .before .before .before .before .before .args .image)) in simp (lt-leb (t .mounts) 256 (omega (arith, ap (λ x. x .mounts) (c .before .before .before .before .before .before .before .before .before .pre .1))), and-false)
+returns-4 c = let t = sizesOf (now (c .before .before .before .before .before .before .before .before .before .args .image)) in simp (lt-leb (t .mounts) 256 (omega (arith, ap (λ x. x .mounts) (c .before .before .before .before .before .before .before .before .before .pre .1))), and-false)
 
 returns-5 : tie.Need-returns-5
 unfolding countsFit
-returns-5 c = let t = treeOf (now (c .before .before .before .before .before .before .before .before .before .before .before .args .image)) in simp (lt-leb (t .entries) 4096 (omega (arith, ap (λ x. x .entries) (c .before .before .before .before .before .before .before .before .before .before .before .pre .1))), and-false)
+returns-5 c = let t = sizesOf (now (c .before .before .before .before .before .before .before .before .before .before .before .args .image)) in simp (lt-leb (t .entries) 4096 (omega (arith, ap (λ x. x .entries) (c .before .before .before .before .before .before .before .before .before .before .before .pre .1))), and-false)
 
 mul-whole : tie.Need-mul-whole
 mul-whole c = search needs
@@ -62,13 +62,13 @@ u32-at-requires c κs = search needs
 returns-6 : tie.Need-returns-6
 unfolding wholeLength
 returns-6 c =
-    let t = treeOf (now (c .before .before .before .before .before .before .before .before .before .before .before .before .before .before .before .before .args .image)) in
+    let t = sizesOf (now (c .before .before .before .before .before .before .before .before .before .before .before .before .before .before .before .before .args .image)) in
     simp (ne-eqb (field 4 (now (c .before .before .before .before .before .before .before .before .before .before .before .before .before .before .before .before .args .image)) 16) (wholeLength t) (λ e. c .if6 .taken (c .before .u32-at .ensures .0 ∙ e ∙ sym (whole-is (c .before .before .before .before .before .before .before .before .before .before .before .before .before .before .before .before .args .c) t (c .before .before .before .before .before .before .before .before .before .before .before .before .before .before .before .before .args .text) (ap (λ x. x .nodes) (c .before .before .before .before .before .before .before .before .before .before .before .before .before .before .before .before .pre .1)) (ap (λ x. x .mounts) (c .before .before .before .before .before .before .before .before .before .before .before .before .before .before .before .before .pre .1)) (ap (λ x. x .entries) (c .before .before .before .before .before .before .before .before .before .before .before .before .before .before .before .before .pre .1)) (c .before .before .before .before .before .before .before .before .before .before .before .before .before .before .before .before .pre .2)))), and-false)
 
 returns-7 : tie.Need-returns-7
 unfolding countsFit
 returns-7 c =
-    let t = treeOf (now (c .before .before .before .before .before .before .before .before .before .before .before .before .before .before .before .before .args .image)) in
+    let t = sizesOf (now (c .before .before .before .before .before .before .before .before .before .before .before .before .before .before .before .before .args .image)) in
     let w = whole-is (c .before .before .before .before .before .before .before .before .before .before .before .before .before .before .before .before .args .c) t (c .before .before .before .before .before .before .before .before .before .before .before .before .before .before .before .before .args .text) (ap (λ x. x .nodes) (c .before .before .before .before .before .before .before .before .before .before .before .before .before .before .before .before .pre .1)) (ap (λ x. x .mounts) (c .before .before .before .before .before .before .before .before .before .before .before .before .before .before .before .before .pre .1)) (ap (λ x. x .entries) (c .before .before .before .before .before .before .before .before .before .before .before .before .before .before .before .before .pre .1)) (c .before .before .before .before .before .before .before .before .before .before .before .before .before .before .before .before .pre .2) in
     ap (λ (n : ℕ). eqb (length (now (c .before .before .before .before .before .before .before .before .before .before .before .before .before .before .before .before .args .image))) n) w
     ∙ rw (le-leb 1 (t .nodes) (omega (arith, ap (λ x. x .nodes) (c .before .before .before .before .before .before .before .before .before .before .before .before .before .before .before .before .pre .1))), le-leb (t .nodes) 4096 (omega (arith, ap (λ x. x .nodes) (c .before .before .before .before .before .before .before .before .before .before .before .before .before .before .before .before .pre .1))), le-leb 1 (t .mounts) (omega (arith, ap (λ x. x .mounts) (c .before .before .before .before .before .before .before .before .before .before .before .before .before .before .before .before .pre .1))), le-leb (t .mounts) 256 (omega (arith, ap (λ x. x .mounts) (c .before .before .before .before .before .before .before .before .before .before .before .before .before .before .before .before .pre .1))), le-leb (t .entries) 4096 (omega (arith, ap (λ x. x .entries) (c .before .before .before .before .before .before .before .before .before .before .before .before .before .before .before .before .pre .1))), eq-eqb (field 4 (now (c .before .before .before .before .before .before .before .before .before .before .before .before .before .before .before .before .args .image)) 16) (wholeLength t) (sym (c .before .u32-at .ensures .0) ∙ c .if6 .left ∙ w))

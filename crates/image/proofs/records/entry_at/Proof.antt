@@ -1,7 +1,7 @@
 -- `image::records::entry_at` meets its contract. Assumes nothing.
 use borrow.Author.Needs.{needs}
 use native.Mathlib.Omega.{arith}
-use Rattle.model.specs.Tree.{treeOf, mountAt, entryAt, textAt}
+use Rattle.model.specs.Tree.{sizesOf, treeOf}
 use Rattle.image.proofs.records.entry_at.Statement.{statement}
 use Rattle.image.proofs.records.entry_at.Tie as tie
 
@@ -24,7 +24,7 @@ add-result-3 : tie.Need-add-result-3
 add-result-3 c = search needs
 
 returns : tie.Need-returns
-unfolding treeOf mountAt entryAt textAt
+unfolding treeOf sizesOf
 returns c = omega arith
 
 pub entry-at-spec : {M : Type 1} → statement M

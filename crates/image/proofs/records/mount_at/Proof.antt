@@ -1,7 +1,7 @@
 -- `image::records::mount_at` meets its contract. Assumes nothing.
 use borrow.Author.Needs.{needs}
 use native.Mathlib.Omega.{arith}
-use Rattle.model.specs.Tree.{treeOf, mountAt, entryAt, textAt}
+use Rattle.model.specs.Tree.{sizesOf, treeOf}
 use Rattle.image.proofs.records.mount_at.Statement.{statement}
 use Rattle.image.proofs.records.mount_at.Tie as tie
 
@@ -18,7 +18,7 @@ add-result-2 : tie.Need-add-result-2
 add-result-2 c = search needs
 
 returns : tie.Need-returns
-unfolding treeOf mountAt entryAt textAt
+unfolding treeOf sizesOf
 returns c = omega arith
 
 pub mount-at-spec : {M : Type 1} → statement M

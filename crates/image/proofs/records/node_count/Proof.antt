@@ -1,10 +1,11 @@
 -- `image::records::node_count` meets its contract. Assumes nothing.
-use mathlib.Core.Path.{ap, _∙_}
+use Prim.Native.Nat.{_+_, _*_}
+use mathlib.Core.Path.{_∙_}
 use native.Mathlib.Omega.{arith}
 use denote.Ref.{now}
 use Prim.Native.Nat.{_+_}
-use Rattle.model.specs.Bytes.{field}
-use Rattle.model.specs.Tree.{treeOf}
+use Rattle.model.specs.Tree.{nodesPart, treeOf}
+use Rattle.theorems.proofs.PartLaws.{part-column}
 use Rattle.image.proofs.records.node_count.Statement.{statement}
 use Rattle.image.proofs.records.node_count.Tie as tie
 
@@ -18,8 +19,12 @@ u32-at-requires : tie.Need-u32-at-requires
 u32-at-requires c κs = omega (arith, c .node-at .ensures .1)
 
 returns : tie.Need-returns
-unfolding treeOf
-returns c = (c .u32-at .ensures .0 ∙ ap (λ a. field 4 (now (c .before .before .before .args .image)) (a + 8)) (c .before .node-at .ensures .0), c .u32-at .ensures .1)
+unfolding treeOf nodesPart
+returns c =
+    let a = c .before .before .before .args in
+    let s = now (a .image) in
+    let at = c .before .node-at .ensures .0 in
+    (c .u32-at .ensures .0 ∙ part-column 4 s 20 _ (12 * a .n + 8) _ (omega arith) (omega (arith, at)), c .u32-at .ensures .1)
 
 pub node-count-spec : {M : Type 1} → statement M
 node-count-spec = tie.close (tie.spec node-at-requires add-u32-at u32-at-requires returns)

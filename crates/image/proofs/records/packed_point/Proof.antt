@@ -1,10 +1,12 @@
 -- `image::records::packed_point` meets its contract. Assumes nothing.
 use borrow.Author.Needs.{needs}
-use mathlib.Core.Path.{_∙_}
+use Prim.Native.Nat.{_+_, _*_}
+use mathlib.Core.Path.{refl, _∙_}
 use native.Mathlib.Omega.{arith}
 use denote.Ref.{now}
-use Rattle.model.specs.Tree.{treeOf}
+use Rattle.model.specs.Tree.{sizesOf, mountsAt, mountsPart, treeOf}
 use Rattle.theorems.proofs.ByteLaws.{field-pair, field-lt}
+use Rattle.theorems.proofs.PartLaws.{part-column}
 use Rattle.image.proofs.records.packed_point.Statement.{statement}
 use Rattle.image.proofs.records.packed_point.Tie as tie
 
@@ -18,10 +20,17 @@ u32-at-requires : tie.Need-u32-at-requires
 u32-at-requires c κs = search needs
 
 returns : tie.Need-returns
-unfolding treeOf
+unfolding treeOf mountsPart
 returns c =
-    let s = now (c .before .before .before .args .image) in
-    (c .u32-at .ensures .0 ∙ field-pair s (c .before .mount-at .result) _ (c .before .mount-at .ensures .0), field-lt 2 s _ (λ i. omega (arith, c .before .before .shared-slice-known .given i)))
+    let a = c .before .before .before .args in
+    let s = now (a .image) in
+    let at = c .before .mount-at .ensures .0 in
+    let count = 8 * sizesOf s .mounts in
+    let x = c .before .mount-at .result + 2 in
+    let both = c .u32-at .ensures .0 ∙ part-column 4 s (mountsAt (sizesOf s)) count (8 * a .m + 2) x (omega arith) (omega (arith, at)) in
+    let parent = part-column 2 s (mountsAt (sizesOf s)) count (8 * a .m + 2) x (omega arith) (omega (arith, at)) in
+    let small = field-lt 2 s x (λ i. omega (arith, c .before .before .shared-slice-known .given i)) in
+    (both ∙ field-pair (mountsPart (sizesOf s) s) (8 * a .m) (8 * a .m) refl, omega (arith, parent, small))
 
 pub packed-point-spec : {M : Type 1} → statement M
 packed-point-spec = tie.close (tie.spec mount-at-requires add-u32-at u32-at-requires returns)

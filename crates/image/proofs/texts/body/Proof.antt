@@ -1,9 +1,11 @@
 -- `image::texts::body` meets its contract. Assumes nothing.
 use borrow.Author.Needs.{needs}
 use Prim.Native.Nat.{ℕ, _+_}
-use mathlib.Core.Path.{ap, ap₂}
+use mathlib.Core.Path.{sym, ap, ap₂, _∙_}
+use native.Mathlib.Omega.{arith}
 use denote.Ref.{now}
-use Rattle.model.specs.Tree.{treeOf}
+use Rattle.model.specs.Tree.{sizesOf, textAt, textPart, treeOf}
+use Rattle.theorems.proofs.PartLaws.{part-part}
 use Rattle.theorems.proofs.StringLaws.{part-between}
 use Rattle.image.proofs.texts.body.Statement.{statement}
 use Rattle.image.proofs.texts.body.Tie as tie
@@ -33,8 +35,14 @@ part-result-end : tie.Need-part-result-end
 part-result-end c = search needs
 
 returns : tie.Need-returns
-unfolding treeOf
-returns c = part-between (now (c .before .before .before .before .before .args .image)) _ _ _ _ (ap₂ _+_ (c .before .before .before .text-at .ensures .0) (c .before .before .node-first .ensures .0)) (ap (λ (n : ℕ). c .before .before .before .text-at .result + c .before .before .node-first .result + n) (c .before .node-count .ensures .0))
+unfolding treeOf textPart
+returns c =
+    let s = now (c .before .before .before .before .before .args .image) in
+    let text-at = c .before .before .before .text-at in
+    let start = c .before .before .node-first in
+    let length = c .before .node-count in
+    part-between s _ _ _ _ (ap₂ _+_ (text-at .ensures .0) (start .ensures .0)) (ap (λ (n : ℕ). text-at .result + start .result + n) (length .ensures .0))
+    ∙ sym (part-part s (textAt (sizesOf s)) _ _ _ (omega arith))
 
 pub body-spec : {M : Type 1} → statement M
 body-spec =

@@ -1,9 +1,11 @@
 -- `image::texts::name` meets its contract. Assumes nothing.
 use borrow.Author.Needs.{needs}
 use Prim.Native.Nat.{ℕ, _+_}
-use mathlib.Core.Path.{ap, ap₂}
+use mathlib.Core.Path.{sym, ap, ap₂, _∙_}
+use native.Mathlib.Omega.{arith}
 use denote.Ref.{now}
-use Rattle.model.specs.Tree.{treeOf}
+use Rattle.model.specs.Tree.{sizesOf, textAt, textPart, treeOf}
+use Rattle.theorems.proofs.PartLaws.{part-part}
 use Rattle.theorems.proofs.StringLaws.{part-between}
 use Rattle.image.proofs.texts.name.Statement.{statement}
 use Rattle.image.proofs.texts.name.Tie as tie
@@ -33,8 +35,14 @@ part-result-end : tie.Need-part-result-end
 part-result-end c = search needs
 
 returns : tie.Need-returns
-unfolding treeOf
-returns c = part-between (now (c .before .before .before .before .before .args .image)) _ _ _ _ (ap₂ _+_ (c .before .before .before .text-at .ensures .0) (c .before .before .name-offset .ensures .0)) (ap (λ (n : ℕ). c .before .before .before .text-at .result + c .before .before .name-offset .result + n) (c .before .name-length .ensures .0))
+unfolding treeOf textPart
+returns c =
+    let s = now (c .before .before .before .before .before .args .image) in
+    let text-at = c .before .before .before .text-at in
+    let start = c .before .before .name-offset in
+    let length = c .before .name-length in
+    part-between s _ _ _ _ (ap₂ _+_ (text-at .ensures .0) (start .ensures .0)) (ap (λ (n : ℕ). text-at .result + start .result + n) (length .ensures .0))
+    ∙ sym (part-part s (textAt (sizesOf s)) _ _ _ (omega arith))
 
 pub name-spec : {M : Type 1} → statement M
 name-spec =
