@@ -26,8 +26,11 @@ enum-known-r c = search needs
 returns : tie.Need-returns
 unfolding callRead refusedAfterTable readHow
 returns c =
-    let how = now (c .before .before .before .before .before .before .before .args .how) in
-    rw (how-stopped (howRefused how) (fieldsOf how) (c .before .r .given .0 .0) (sym (c .before .before .before .read-how .ensures) ∙ c .before .r .given .1))
+    let args = c .before .before .before .before .before .before .before .args in
+    let read-how = c .before .before .before .read-how in
+    let r = c .before .r in
+    let how = now (args .how) in
+    rw (how-stopped (howRefused how) (fieldsOf how) (r .given .0 .0) (sym (read-how .ensures) ∙ r .given .1))
 
 check-path-requires : tie.Need-check-path-requires
 check-path-requires c κs = search needs
@@ -38,9 +41,14 @@ enum-known-r-2 c = search needs
 returns-2 : tie.Need-returns-2
 unfolding callRead refusedAfterTable readHow
 returns-2 c =
-    let how = now (c .before .before .before .before .before .before .before .before .before .before .before .args .how) in
-    let how-passes = how-passed (howRefused how) (fieldsOf how) (c .before .before .before .before .before .f .given .0 .0) (sym (c .before .before .before .before .before .before .before .read-how .ensures) ∙ c .before .before .before .before .before .f .given .1) in
-    rw (how-passes .0, stopped (pathRefused (now (c .before .before .before .before .before .before .before .before .before .before .before .args .path))) (c .before .r2 .given .0 .0) (sym (c .before .before .before .check-path .ensures) ∙ c .before .r2 .given .1))
+    let args = c .before .before .before .before .before .before .before .before .before .before .before .args in
+    let read-how = c .before .before .before .before .before .before .before .read-how in
+    let f = c .before .before .before .before .before .f in
+    let check-path = c .before .before .before .check-path in
+    let r2 = c .before .r2 in
+    let how = now (args .how) in
+    let how-passes = how-passed (howRefused how) (fieldsOf how) (f .given .0 .0) (sym (read-how .ensures) ∙ f .given .1) in
+    rw (how-passes .0, stopped (pathRefused (now (args .path))) (r2 .given .0 .0) (sym (check-path .ensures) ∙ r2 .given .1))
 
 enum-told : tie.Need-enum-told
 enum-told c = search needs
@@ -54,10 +62,17 @@ enum-known-r-3 c = search needs
 returns-3 : tie.Need-returns-3
 unfolding callRead refusedAfterTable readHow
 returns-3 c =
-    let how = now (c .before .before .before .before .before .before .before .before .before .before .before .before .before .before .args .how) in
-    let how-passes = how-passed (howRefused how) (fieldsOf how) (c .before .before .before .before .before .before .before .before .f .given .0 .0) (sym (c .before .before .before .before .before .before .before .before .before .before .read-how .ensures) ∙ c .before .before .before .before .before .before .before .before .f .given .1) in
-    let path-passes = passed (pathRefused (now (c .before .before .before .before .before .before .before .before .before .before .before .before .before .before .args .path))) (sym (c .before .before .before .before .before .before .check-path .ensures) ∙ c .before .before .before .before .enum-told .given .1) in
-    rw (how-passes .0, path-passes, stopped (handleRefused (treeOf (now (c .before .before .before .before .before .before .before .before .before .before .before .before .before .before .args .image))) (c .before .before .before .before .before .before .before .before .before .before .before .before .before .before .args .h)) (c .before .r3 .given .0 .0) (sym (c .before .before .before .check-handle .ensures) ∙ c .before .r3 .given .1))
+    let args = c .before .before .before .before .before .before .before .before .before .before .before .before .before .before .args in
+    let read-how = c .before .before .before .before .before .before .before .before .before .before .read-how in
+    let f = c .before .before .before .before .before .before .before .before .f in
+    let check-path = c .before .before .before .before .before .before .check-path in
+    let enum-told = c .before .before .before .before .enum-told in
+    let check-handle = c .before .before .before .check-handle in
+    let r3 = c .before .r3 in
+    let how = now (args .how) in
+    let how-passes = how-passed (howRefused how) (fieldsOf how) (f .given .0 .0) (sym (read-how .ensures) ∙ f .given .1) in
+    let path-passes = passed (pathRefused (now (args .path))) (sym (check-path .ensures) ∙ enum-told .given .1) in
+    rw (how-passes .0, path-passes, stopped (handleRefused (treeOf (now (args .image))) (args .h)) (r3 .given .0 .0) (sym (check-handle .ensures) ∙ r3 .given .1))
 
 enum-told-2 : tie.Need-enum-told-2
 enum-told-2 c = search needs
@@ -65,10 +80,16 @@ enum-told-2 c = search needs
 returns-4 : tie.Need-returns-4
 unfolding callRead refusedAfterTable readHow
 returns-4 c =
-    let how = now (c .before .before .before .before .before .before .before .before .before .before .before .before .before .args .how) in
-    let how-passes = how-passed (howRefused how) (fieldsOf how) (c .before .before .before .before .before .before .before .f .given .0 .0) (sym (c .before .before .before .before .before .before .before .before .before .read-how .ensures) ∙ c .before .before .before .before .before .before .before .f .given .1) in
-    let path-passes = passed (pathRefused (now (c .before .before .before .before .before .before .before .before .before .before .before .before .before .args .path))) (sym (c .before .before .before .before .before .check-path .ensures) ∙ c .before .before .before .enum-told .given .1) in
-    rw (how-passes .0, path-passes, passed (handleRefused (treeOf (now (c .before .before .before .before .before .before .before .before .before .before .before .before .before .args .image))) (c .before .before .before .before .before .before .before .before .before .before .before .before .before .args .h)) (sym (c .before .before .check-handle .ensures) ∙ c .enum-told2 .given .1))
+    let args = c .before .before .before .before .before .before .before .before .before .before .before .before .before .args in
+    let read-how = c .before .before .before .before .before .before .before .before .before .read-how in
+    let f = c .before .before .before .before .before .before .before .f in
+    let check-path = c .before .before .before .before .before .check-path in
+    let enum-told = c .before .before .before .enum-told in
+    let check-handle = c .before .before .check-handle in
+    let how = now (args .how) in
+    let how-passes = how-passed (howRefused how) (fieldsOf how) (f .given .0 .0) (sym (read-how .ensures) ∙ f .given .1) in
+    let path-passes = passed (pathRefused (now (args .path))) (sym (check-path .ensures) ∙ enum-told .given .1) in
+    rw (how-passes .0, path-passes, passed (handleRefused (treeOf (now (args .image))) (args .h)) (sym (check-handle .ensures) ∙ c .enum-told2 .given .1))
     (ap Walks (how-passes .1))
 
 pub check-call-spec : {M : Type 1} → statement M

@@ -26,18 +26,26 @@ enum-known-found c = search needs
 
 entry-node-requires : tie.Need-entry-node-requires
 entry-node-requires c κs =
-    let t = treeOf (now (c .before .before .before .before .before .before .before .args .image)) in
-    let nodes = accepted-sound (now (c .before .before .before .before .before .before .before .args .image)) (c .before .before .before .before .before .before .before .pre .0 .reading .accepted) .nodes-hold in
-    let e = search-at (lookup t (c .before .before .before .before .before .before .before .args .p .node) (now (c .before .before .before .before .before .before .before .args .name))) (c .before .found .given .0 .0) (sym (c .before .before .before .find-entry .ensures) ∙ c .before .found .given .1) in
-    (c .before .before .before .before .before .before .before .pre .0 .reading .counted, lookup-inside t nodes (c .before .before .before .before .before .before .before .args .p .node) (now (c .before .before .before .before .before .before .before .args .name)) (c .before .found .given .0 .0) (c .before .before .before .before .before .before .before .pre .2) e)
+    let args = c .before .before .before .before .before .before .before .args in
+    let pre = c .before .before .before .before .before .before .before .pre in
+    let find-entry = c .before .before .before .find-entry in
+    let found = c .before .found in
+    let t = treeOf (now (args .image)) in
+    let nodes = accepted-sound (now (args .image)) (pre .0 .reading .accepted) .nodes-hold in
+    let e = search-at (lookup t (args .p .node) (now (args .name))) (found .given .0 .0) (sym (find-entry .ensures) ∙ found .given .1) in
+    (pre .0 .reading .counted, lookup-inside t nodes (args .p .node) (now (args .name)) (found .given .0 .0) (pre .2) e)
 
 step-to-requires : tie.Need-step-to-requires
 step-to-requires c κs =
-    let t = treeOf (now (c .before .before .before .before .before .before .before .before .args .image)) in
-    let sound = accepted-sound (now (c .before .before .before .before .before .before .before .before .args .image)) (c .before .before .before .before .before .before .before .before .pre .0 .reading .accepted) in
-    let e = search-at (lookup t (c .before .before .before .before .before .before .before .before .args .p .node) (now (c .before .before .before .before .before .before .before .before .args .name))) (c .before .before .found .given .0 .0) (sym (c .before .before .before .before .find-entry .ensures) ∙ c .before .before .found .given .1) in
-    let below = lookup-inside t (sound .nodes-hold) (c .before .before .before .before .before .before .before .before .args .p .node) (now (c .before .before .before .before .before .before .before .before .args .name)) (c .before .before .found .given .0 .0) (c .before .before .before .before .before .before .before .before .pre .2) e in
-    (c .before .before .before .before .before .before .before .before .pre .0, c .before .before .before .before .before .before .before .before .pre .1, omega (arith, c .entry-node .ensures .0, entry-facts t sound (c .before .before .found .given .0 .0) below .1))
+    let args = c .before .before .before .before .before .before .before .before .args in
+    let pre = c .before .before .before .before .before .before .before .before .pre in
+    let find-entry = c .before .before .before .before .find-entry in
+    let found = c .before .before .found in
+    let t = treeOf (now (args .image)) in
+    let sound = accepted-sound (now (args .image)) (pre .0 .reading .accepted) in
+    let e = search-at (lookup t (args .p .node) (now (args .name))) (found .given .0 .0) (sym (find-entry .ensures) ∙ found .given .1) in
+    let below = lookup-inside t (sound .nodes-hold) (args .p .node) (now (args .name)) (found .given .0 .0) (pre .2) e in
+    (pre .0, pre .1, omega (arith, c .entry-node .ensures .0, entry-facts t sound (found .given .0 .0) below .1))
 
 enum-told : tie.Need-enum-told
 enum-told c = search needs
@@ -45,19 +53,27 @@ enum-told c = search needs
 returns-2 : tie.Need-returns-2
 unfolding byName
 returns-2 c =
-    let t = treeOf (now (c .before .before .before .before .before .before .before .before .before .args .image)) in
-    let k = c .before .before .before .before .before .before .before .before .before .args .k in
-    let a = requestFor (now (c .before .before .before .before .before .before .before .before .before .args .image)) k in
-    let e = search-at (lookup t (c .before .before .before .before .before .before .before .before .before .args .p .node) (now (c .before .before .before .before .before .before .before .before .before .args .name))) (c .before .before .before .found .given .0 .0) (sym (c .before .before .before .before .before .find-entry .ensures) ∙ c .before .before .before .found .given .1) in
-    c .step-to .ensures ∙ ap (λ (n : ℕ). outcome (restrictionsFor k) (c .before .before .before .before .before .before .before .before .before .args .links) (stepTo a (c .before .before .before .before .before .before .before .before .before .args .last) (c .before .before .before .before .before .before .before .before .before .args .p) n)) (c .before .entry-node .ensures .0)
-    ∙ rw (le-ltb 255 (length (now (c .before .before .before .before .before .before .before .before .before .args .name))) (c .before .before .before .before .before .before .if1 .left), e)
+    let args = c .before .before .before .before .before .before .before .before .before .args in
+    let if1 = c .before .before .before .before .before .before .if1 in
+    let find-entry = c .before .before .before .before .before .find-entry in
+    let found = c .before .before .before .found in
+    let entry-node = c .before .entry-node in
+    let t = treeOf (now (args .image)) in
+    let k = args .k in
+    let a = requestFor (now (args .image)) k in
+    let e = search-at (lookup t (args .p .node) (now (args .name))) (found .given .0 .0) (sym (find-entry .ensures) ∙ found .given .1) in
+    c .step-to .ensures ∙ ap (λ (n : ℕ). outcome (restrictionsFor k) (args .links) (stepTo a (args .last) (args .p) n)) (entry-node .ensures .0)
+    ∙ rw (le-ltb 255 (length (now (args .name))) (if1 .left), e)
 
 returns-3 : tie.Need-returns-3
 unfolding byName
 returns-3 c =
-    let t = treeOf (now (c .before .before .before .before .before .before .args .image)) in
-    let e = search-nowhere (lookup t (c .before .before .before .before .before .before .args .p .node) (now (c .before .before .before .before .before .before .args .name))) (sym (c .before .before .find-entry .ensures) ∙ c .enum-told .given .1) in
-    rw (le-ltb 255 (length (now (c .before .before .before .before .before .before .args .name))) (c .before .before .before .if1 .left), e)
+    let args = c .before .before .before .before .before .before .args in
+    let if1 = c .before .before .before .if1 in
+    let find-entry = c .before .before .find-entry in
+    let t = treeOf (now (args .image)) in
+    let e = search-nowhere (lookup t (args .p .node) (now (args .name))) (sym (find-entry .ensures) ∙ c .enum-told .given .1) in
+    rw (le-ltb 255 (length (now (args .name))) (if1 .left), e)
 
 pub by-name-spec : {M : Type 1} → statement M
 by-name-spec =

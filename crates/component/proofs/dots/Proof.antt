@@ -25,10 +25,19 @@ shared-slice-read-if5 : tie.Need-shared-slice-read-if5
 shared-slice-read-if5 c = search needs
 
 returns-5 : tie.Need-returns-5
-returns-5 c = sym (dots-half (now (c .before .before .before .before .before .before .before .args .name)) (c .before .before .if4 .left) (c .if5 .taken))
+returns-5 c =
+    let args = c .before .before .before .before .before .before .before .args in
+    let if4 = c .before .before .if4 in
+    sym (dots-half (now (args .name)) (if4 .left) (c .if5 .taken))
 
 returns-6 : tie.Need-returns-6
-returns-6 c = sym (dots-two (now (c .before .before .before .before .before .before .before .args .name)) (c .before .before .before .before .before .before .if1 .left) (c .before .before .before .before .before .if2 .left) (c .before .before .if4 .left) (c .before .before .before .if3 .left) (c .if5 .left))
+returns-6 c =
+    let args = c .before .before .before .before .before .before .before .args in
+    let if1 = c .before .before .before .before .before .before .if1 in
+    let if2 = c .before .before .before .before .before .if2 in
+    let if3 = c .before .before .before .if3 in
+    let if4 = c .before .before .if4 in
+    sym (dots-two (now (args .name)) (if1 .left) (if2 .left) (if4 .left) (if3 .left) (c .if5 .left))
 
 pub dots-spec : {M : Type 1} → statement M
 dots-spec =

@@ -11,16 +11,26 @@ use Rattle.component.proofs.step_to.Statement.{statement}
 use Rattle.component.proofs.step_to.Tie as tie
 
 node-kind-requires : tie.Need-node-kind-requires
-node-kind-requires c κs = (c .before .pre .0 .reading .counted .sized, c .before .pre .2)
+node-kind-requires c κs =
+    let pre = c .before .pre in
+    (pre .0 .reading .counted .sized, pre .2)
 
 enter-requires : tie.Need-enter-requires
-enter-requires c κs = (c .before .before .before .pre .0 .reading, record { mount-below = c .before .before .before .pre .1 .mount-below; node-below = c .before .before .before .pre .2 })
+enter-requires c κs =
+    let pre = c .before .before .before .pre in
+    (pre .0 .reading, record { mount-below = pre .1 .mount-below; node-below = pre .2 })
 
 symbolic-to-requires : tie.Need-symbolic-to-requires
-symbolic-to-requires c κs = (c .before .before .before .pre .0, c .before .before .before .pre .2, sym (c .before .node-kind .ensures .0) ∙ c .match .keys3)
+symbolic-to-requires c κs =
+    let pre = c .before .before .before .pre in
+    let node-kind = c .before .node-kind in
+    (pre .0, pre .2, sym (node-kind .ensures .0) ∙ c .match .keys3)
 
 magic-to-requires : tie.Need-magic-to-requires
-magic-to-requires c κs = (c .before .before .before .pre .0, c .before .before .before .pre .2, sym (c .before .node-kind .ensures .0) ∙ c .match .keys4)
+magic-to-requires c κs =
+    let pre = c .before .before .before .pre in
+    let node-kind = c .before .node-kind in
+    (pre .0, pre .2, sym (node-kind .ensures .0) ∙ c .match .keys4)
 
 returns : tie.Need-returns
 unfolding stepTo isLink
@@ -46,12 +56,14 @@ returns-4 c = c .magic-to .ensures
 
 returns-5 : tie.Need-returns-5
 returns-5 c =
-    let a = c .before .before .before .args in
-    let t = treeOf (now (a .image)) in
-    let kind = c .before .node-kind .ensures .0 in
-    let sound = accepted-sound (now (a .image)) (c .before .before .before .pre .0 .reading .accepted) in
-    let stood = stood-other (restrictionsFor (a .k)) (a .links) (requestFor (now (a .image)) (a .k)) (a .last) (a .p) (a .n) in
-    stood (sound .mounts-hold) (λ e. c .match .rest .0 .0 .0 .1 (kind ∙ e)) (no-link t (a .n) (λ e. c .match .rest .0 .1 (kind ∙ e)) (λ e. c .match .rest .1 (kind ∙ e)))
+    let args = c .before .before .before .args in
+    let pre = c .before .before .before .pre in
+    let node-kind = c .before .node-kind in
+    let t = treeOf (now (args .image)) in
+    let kind = node-kind .ensures .0 in
+    let sound = accepted-sound (now (args .image)) (pre .0 .reading .accepted) in
+    let stood = stood-other (restrictionsFor (args .k)) (args .links) (requestFor (now (args .image)) (args .k)) (args .last) (args .p) (args .n) in
+    stood (sound .mounts-hold) (λ e. c .match .rest .0 .0 .0 .1 (kind ∙ e)) (no-link t (args .n) (λ e. c .match .rest .0 .1 (kind ∙ e)) (λ e. c .match .rest .1 (kind ∙ e)))
 
 pub step-to-spec : {M : Type 1} → statement M
 step-to-spec =

@@ -20,13 +20,24 @@ by-name-requires c κs = search needs
 
 returns : tie.Need-returns
 unfolding oneComponent forbidAny
-returns c = sym (one-dot (restrictionsFor (c .before .before .before .before .args .k)) (c .before .before .before .before .args .links) (requestFor (now (c .before .before .before .before .args .image)) (c .before .before .before .before .args .k)) (c .before .before .before .before .args .last) (c .before .before .before .before .args .p) (now (c .before .before .before .before .args .name)) (sym (c .before .dots .ensures) ∙ c .match .keys1))
+returns c =
+    let args = c .before .before .before .before .args in
+    let dots = c .before .dots in
+    sym (one-dot (restrictionsFor (args .k)) (args .links) (requestFor (now (args .image)) (args .k)) (args .last) (args .p) (now (args .name)) (sym (dots .ensures) ∙ c .match .keys1))
 
 returns-2 : tie.Need-returns-2
-returns-2 c = c .go-up .ensures ∙ sym (two-dots (restrictionsFor (c .before .before .before .before .before .args .k)) (c .before .before .before .before .before .args .links) (requestFor (now (c .before .before .before .before .before .args .image)) (c .before .before .before .before .before .args .k)) (c .before .before .before .before .before .args .last) (c .before .before .before .before .before .args .p) (now (c .before .before .before .before .before .args .name)) (sym (c .before .before .dots .ensures) ∙ c .before .match .keys2))
+returns-2 c =
+    let args = c .before .before .before .before .before .args in
+    let dots = c .before .before .dots in
+    let match′ = c .before .match in
+    c .go-up .ensures ∙ sym (two-dots (restrictionsFor (args .k)) (args .links) (requestFor (now (args .image)) (args .k)) (args .last) (args .p) (now (args .name)) (sym (dots .ensures) ∙ match′ .keys2))
 
 returns-3 : tie.Need-returns-3
-returns-3 c = c .by-name .ensures ∙ sym (no-dots (restrictionsFor (c .before .before .before .before .before .args .k)) (c .before .before .before .before .before .args .links) (requestFor (now (c .before .before .before .before .before .args .image)) (c .before .before .before .before .before .args .k)) (c .before .before .before .before .before .args .last) (c .before .before .before .before .before .args .p) (now (c .before .before .before .before .before .args .name)) (λ e. c .before .match .rest .0 .1 (c .before .before .dots .ensures ∙ e)) (λ e. c .before .match .rest .1 (c .before .before .dots .ensures ∙ e)))
+returns-3 c =
+    let args = c .before .before .before .before .before .args in
+    let dots = c .before .before .dots in
+    let match′ = c .before .match in
+    c .by-name .ensures ∙ sym (no-dots (restrictionsFor (args .k)) (args .links) (requestFor (now (args .image)) (args .k)) (args .last) (args .p) (now (args .name)) (λ e. match′ .rest .0 .1 (dots .ensures ∙ e)) (λ e. match′ .rest .1 (dots .ensures ∙ e)))
 
 pub take-component-spec : {M : Type 1} → statement M
 take-component-spec =

@@ -20,7 +20,11 @@ refuse-requires-2 c κs = search needs
 
 returns-2 : tie.Need-returns-2
 unfolding lengthRefused
-returns-2 c = rw (le-ltb (length (now (c .before .before .before .before .args .how))) 24 (c .before .before .if1 .left), lt-ltb 4096 (length (now (c .before .before .before .before .args .how))) (c .before .if2 .taken)) (c .refuse2 .ensures)
+returns-2 c =
+    let args = c .before .before .before .before .args in
+    let if1 = c .before .before .if1 in
+    let if2 = c .before .if2 in
+    rw (le-ltb (length (now (args .how))) 24 (if1 .left), lt-ltb 4096 (length (now (args .how))) (if2 .taken)) (c .refuse2 .ensures)
 
 tail-set-requires : tie.Need-tail-set-requires
 tail-set-requires c κs = search needs
@@ -30,11 +34,22 @@ refuse-requires-3 c κs = search needs
 
 returns-3 : tie.Need-returns-3
 unfolding lengthRefused
-returns-3 c = rw (le-ltb (length (now (c .before .before .before .before .before .before .args .how))) 24 (c .before .before .before .before .if1 .left), le-ltb 4096 (length (now (c .before .before .before .before .before .before .args .how))) (c .before .before .before .if2 .left), sym (c .before .before .tail-set .ensures) ∙ c .before .if3 .taken) (c .refuse3 .ensures)
+returns-3 c =
+    let args = c .before .before .before .before .before .before .args in
+    let if1 = c .before .before .before .before .if1 in
+    let if2 = c .before .before .before .if2 in
+    let tail-set = c .before .before .tail-set in
+    let if3 = c .before .if3 in
+    rw (le-ltb (length (now (args .how))) 24 (if1 .left), le-ltb 4096 (length (now (args .how))) (if2 .left), sym (tail-set .ensures) ∙ if3 .taken) (c .refuse3 .ensures)
 
 returns-4 : tie.Need-returns-4
 unfolding lengthRefused
-returns-4 c = rw (le-ltb (length (now (c .before .before .before .before .before .args .how))) 24 (c .before .before .before .if1 .left), le-ltb 4096 (length (now (c .before .before .before .before .before .args .how))) (c .before .before .if2 .left), sym (c .before .tail-set .ensures) ∙ c .if3 .left)
+returns-4 c =
+    let args = c .before .before .before .before .before .args in
+    let if1 = c .before .before .before .if1 in
+    let if2 = c .before .before .if2 in
+    let tail-set = c .before .tail-set in
+    rw (le-ltb (length (now (args .how))) 24 (if1 .left), le-ltb 4096 (length (now (args .how))) (if2 .left), sym (tail-set .ensures) ∙ c .if3 .left)
 
 pub check-length-spec : {M : Type 1} → statement M
 check-length-spec =

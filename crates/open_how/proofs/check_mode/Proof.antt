@@ -14,7 +14,11 @@ refuse-requires : tie.Need-refuse-requires
 refuse-requires c κs = search needs
 
 returns : tie.Need-returns
-returns c = rw (mode-set (now (c .before .before .before .before .args .how)) (λ e. c .before .if1 .taken (c .before .before .u64-at .ensures .0 ∙ e))) (c .refuse .ensures)
+returns c =
+    let args = c .before .before .before .before .args in
+    let u64-at = c .before .before .u64-at in
+    let if1 = c .before .if1 in
+    rw (mode-set (now (args .how)) (λ e. if1 .taken (u64-at .ensures .0 ∙ e))) (c .refuse .ensures)
 
 returns-2 : tie.Need-returns-2
 returns-2 c = rw (mode-clear (now (c .before .before .before .args .how)) (sym (c .before .u64-at .ensures .0) ∙ c .if1 .left))

@@ -22,7 +22,12 @@ refuse-requires : tie.Need-refuse-requires
 refuse-requires c κs = tt
 
 returns-3 : tie.Need-returns-3
-returns-3 c = rw (sym (c .before .before .before .before .has .ensures) ∙ not-false _ (c .before .before .before .if1 .left), sym (c .before .before .has2 .ensures) ∙ not-false _ (c .before .if2 .left)) (c .refuse .ensures)
+returns-3 c =
+    let has = c .before .before .before .before .has in
+    let if1 = c .before .before .before .if1 in
+    let has2 = c .before .before .has2 in
+    let if2 = c .before .if2 in
+    rw (sym (has .ensures) ∙ not-false _ (if1 .left), sym (has2 .ensures) ∙ not-false _ (if2 .left)) (c .refuse .ensures)
 
 pub check-scopes-spec : {M : Type 1} → statement M
 check-scopes-spec = tie.close (tie.spec has-requires returns has-requires-2 returns-2 refuse-requires returns-3)

@@ -21,17 +21,27 @@ enum-known-r c = search needs
 returns : tie.Need-returns
 unfolding readHow
 returns c =
-    let how = now (c .before .before .before .before .before .args .how) in
-    rw (read-steps how (field 8 how 0) (field 8 how 16) refl refl, stopped (lengthRefused how) (c .before .r .given .0 .0) (sym (c .before .before .before .check-length .ensures) ∙ c .before .r .given .1))
+    let args = c .before .before .before .before .before .args in
+    let check-length = c .before .before .before .check-length in
+    let r = c .before .r in
+    let how = now (args .how) in
+    rw (read-steps how (field 8 how 0) (field 8 how 16) refl refl, stopped (lengthRefused how) (r .given .0 .0) (sym (check-length .ensures) ∙ r .given .1))
 
 enum-told : tie.Need-enum-told
 enum-told c = search needs
 
 u64-at-requires : tie.Need-u64-at-requires
-u64-at-requires c κs = omega (arith, length-long (now (c .before .before .before .before .args .how)) (passed _ (sym (c .before .before .check-length .ensures) ∙ c .enum-told .given .1)))
+u64-at-requires c κs =
+    let args = c .before .before .before .before .args in
+    let check-length = c .before .before .check-length in
+    omega (arith, length-long (now (args .how)) (passed _ (sym (check-length .ensures) ∙ c .enum-told .given .1)))
 
 u64-at-requires-2 : tie.Need-u64-at-requires-2
-u64-at-requires-2 c κs = omega (arith, length-long (now (c .before .before .before .before .before .args .how)) (passed _ (sym (c .before .before .before .check-length .ensures) ∙ c .before .enum-told .given .1)))
+u64-at-requires-2 c κs =
+    let args = c .before .before .before .before .before .args in
+    let check-length = c .before .before .before .check-length in
+    let enum-told = c .before .enum-told in
+    omega (arith, length-long (now (args .how)) (passed _ (sym (check-length .ensures) ∙ enum-told .given .1)))
 
 check-bits-requires : tie.Need-check-bits-requires
 check-bits-requires c κs = search needs
@@ -42,12 +52,17 @@ enum-known-r-2 c = search needs
 returns-2 : tie.Need-returns-2
 unfolding readHow
 returns-2 c =
-    let how = now (c .before .before .before .before .before .before .before .before .before .before .args .how) in
-    let flags = c .before .before .before .before .before .u64-at in
-    let resolve = c .before .before .before .before .u64-at2 in
-    let steps = read-steps how (flags .result) (resolve .result) (flags .ensures .0) (resolve .ensures .0) in
-    let length-passes = passed (lengthRefused how) (sym (c .before .before .before .before .before .before .before .before .check-length .ensures) ∙ c .before .before .before .before .before .before .enum-told .given .1) in
-    rw (steps, length-passes, stopped (flagsRefused (flags .result)) (c .before .r2 .given .0 .0) (sym (c .before .before .before .check-bits .ensures) ∙ c .before .r2 .given .1))
+    let args = c .before .before .before .before .before .before .before .before .before .before .args in
+    let check-length = c .before .before .before .before .before .before .before .before .check-length in
+    let enum-told = c .before .before .before .before .before .before .enum-told in
+    let u64-at = c .before .before .before .before .before .u64-at in
+    let u64-at2 = c .before .before .before .before .u64-at2 in
+    let check-bits = c .before .before .before .check-bits in
+    let r2 = c .before .r2 in
+    let how = now (args .how) in
+    let steps = read-steps how (u64-at .result) (u64-at2 .result) (u64-at .ensures .0) (u64-at2 .ensures .0) in
+    let length-passes = passed (lengthRefused how) (sym (check-length .ensures) ∙ enum-told .given .1) in
+    rw (steps, length-passes, stopped (flagsRefused (u64-at .result)) (r2 .given .0 .0) (sym (check-bits .ensures) ∙ r2 .given .1))
 
 enum-told-2 : tie.Need-enum-told-2
 enum-told-2 c = search needs
@@ -61,13 +76,20 @@ enum-known-r-3 c = search needs
 returns-3 : tie.Need-returns-3
 unfolding readHow
 returns-3 c =
-    let how = now (c .before .before .before .before .before .before .before .before .before .before .before .before .before .args .how) in
-    let flags = c .before .before .before .before .before .before .before .before .u64-at in
-    let resolve = c .before .before .before .before .before .before .before .u64-at2 in
-    let steps = read-steps how (flags .result) (resolve .result) (flags .ensures .0) (resolve .ensures .0) in
-    let length-passes = passed (lengthRefused how) (sym (c .before .before .before .before .before .before .before .before .before .before .before .check-length .ensures) ∙ c .before .before .before .before .before .before .before .before .before .enum-told .given .1) in
-    let flags-pass = passed (flagsRefused (flags .result)) (sym (c .before .before .before .before .before .before .check-bits .ensures) ∙ c .before .before .before .before .enum-told2 .given .1) in
-    rw (steps, length-passes, flags-pass, stopped (resolveRefused (resolve .result)) (c .before .r3 .given .0 .0) (sym (c .before .before .before .check-bits2 .ensures) ∙ c .before .r3 .given .1))
+    let args = c .before .before .before .before .before .before .before .before .before .before .before .before .before .args in
+    let check-length = c .before .before .before .before .before .before .before .before .before .before .before .check-length in
+    let enum-told = c .before .before .before .before .before .before .before .before .before .enum-told in
+    let u64-at = c .before .before .before .before .before .before .before .before .u64-at in
+    let u64-at2 = c .before .before .before .before .before .before .before .u64-at2 in
+    let check-bits = c .before .before .before .before .before .before .check-bits in
+    let enum-told2 = c .before .before .before .before .enum-told2 in
+    let check-bits2 = c .before .before .before .check-bits2 in
+    let r3 = c .before .r3 in
+    let how = now (args .how) in
+    let steps = read-steps how (u64-at .result) (u64-at2 .result) (u64-at .ensures .0) (u64-at2 .ensures .0) in
+    let length-passes = passed (lengthRefused how) (sym (check-length .ensures) ∙ enum-told .given .1) in
+    let flags-pass = passed (flagsRefused (u64-at .result)) (sym (check-bits .ensures) ∙ enum-told2 .given .1) in
+    rw (steps, length-passes, flags-pass, stopped (resolveRefused (u64-at2 .result)) (r3 .given .0 .0) (sym (check-bits2 .ensures) ∙ r3 .given .1))
 
 enum-told-3 : tie.Need-enum-told-3
 enum-told-3 c = search needs
@@ -81,20 +103,33 @@ enum-known-r-4 c = search needs
 returns-4 : tie.Need-returns-4
 unfolding readHow
 returns-4 c =
-    let how = now (c .before .before .before .before .before .before .before .before .before .before .before .before .before .before .before .before .args .how) in
-    let flags = c .before .before .before .before .before .before .before .before .before .before .before .u64-at in
-    let resolve = c .before .before .before .before .before .before .before .before .before .before .u64-at2 in
-    let steps = read-steps how (flags .result) (resolve .result) (flags .ensures .0) (resolve .ensures .0) in
-    let length-passes = passed (lengthRefused how) (sym (c .before .before .before .before .before .before .before .before .before .before .before .before .before .before .check-length .ensures) ∙ c .before .before .before .before .before .before .before .before .before .before .before .before .enum-told .given .1) in
-    let flags-pass = passed (flagsRefused (flags .result)) (sym (c .before .before .before .before .before .before .before .before .before .check-bits .ensures) ∙ c .before .before .before .before .before .before .before .enum-told2 .given .1) in
-    let resolve-passes = passed (resolveRefused (resolve .result)) (sym (c .before .before .before .before .before .before .check-bits2 .ensures) ∙ c .before .before .before .before .enum-told3 .given .1) in
-    rw (steps, length-passes, flags-pass, resolve-passes, stopped (scopesRefused (resolve .result)) (c .before .r4 .given .0 .0) (sym (c .before .before .before .check-scopes .ensures) ∙ c .before .r4 .given .1))
+    let args = c .before .before .before .before .before .before .before .before .before .before .before .before .before .before .before .before .args in
+    let check-length = c .before .before .before .before .before .before .before .before .before .before .before .before .before .before .check-length in
+    let enum-told = c .before .before .before .before .before .before .before .before .before .before .before .before .enum-told in
+    let u64-at = c .before .before .before .before .before .before .before .before .before .before .before .u64-at in
+    let u64-at2 = c .before .before .before .before .before .before .before .before .before .before .u64-at2 in
+    let check-bits = c .before .before .before .before .before .before .before .before .before .check-bits in
+    let enum-told2 = c .before .before .before .before .before .before .before .enum-told2 in
+    let check-bits2 = c .before .before .before .before .before .before .check-bits2 in
+    let enum-told3 = c .before .before .before .before .enum-told3 in
+    let check-scopes = c .before .before .before .check-scopes in
+    let r4 = c .before .r4 in
+    let how = now (args .how) in
+    let steps = read-steps how (u64-at .result) (u64-at2 .result) (u64-at .ensures .0) (u64-at2 .ensures .0) in
+    let length-passes = passed (lengthRefused how) (sym (check-length .ensures) ∙ enum-told .given .1) in
+    let flags-pass = passed (flagsRefused (u64-at .result)) (sym (check-bits .ensures) ∙ enum-told2 .given .1) in
+    let resolve-passes = passed (resolveRefused (u64-at2 .result)) (sym (check-bits2 .ensures) ∙ enum-told3 .given .1) in
+    rw (steps, length-passes, flags-pass, resolve-passes, stopped (scopesRefused (u64-at2 .result)) (r4 .given .0 .0) (sym (check-scopes .ensures) ∙ r4 .given .1))
 
 enum-told-4 : tie.Need-enum-told-4
 enum-told-4 c = search needs
 
 check-mode-requires : tie.Need-check-mode-requires
-check-mode-requires c κs = omega (arith, length-long (now (c .before .before .before .before .before .before .before .before .before .before .before .before .before .before .before .args .how)) (passed _ (sym (c .before .before .before .before .before .before .before .before .before .before .before .before .before .check-length .ensures) ∙ c .before .before .before .before .before .before .before .before .before .before .before .enum-told .given .1)))
+check-mode-requires c κs =
+    let args = c .before .before .before .before .before .before .before .before .before .before .before .before .before .before .before .args in
+    let check-length = c .before .before .before .before .before .before .before .before .before .before .before .before .before .check-length in
+    let enum-told = c .before .before .before .before .before .before .before .before .before .before .before .enum-told in
+    omega (arith, length-long (now (args .how)) (passed _ (sym (check-length .ensures) ∙ enum-told .given .1)))
 
 enum-known-r-5 : tie.Need-enum-known-r-5
 enum-known-r-5 c = search needs
@@ -102,15 +137,26 @@ enum-known-r-5 c = search needs
 returns-5 : tie.Need-returns-5
 unfolding readHow
 returns-5 c =
-    let how = now (c .before .before .before .before .before .before .before .before .before .before .before .before .before .before .before .before .before .before .before .args .how) in
-    let flags = c .before .before .before .before .before .before .before .before .before .before .before .before .before .before .u64-at in
-    let resolve = c .before .before .before .before .before .before .before .before .before .before .before .before .before .u64-at2 in
-    let steps = read-steps how (flags .result) (resolve .result) (flags .ensures .0) (resolve .ensures .0) in
-    let length-passes = passed (lengthRefused how) (sym (c .before .before .before .before .before .before .before .before .before .before .before .before .before .before .before .before .before .check-length .ensures) ∙ c .before .before .before .before .before .before .before .before .before .before .before .before .before .before .before .enum-told .given .1) in
-    let flags-pass = passed (flagsRefused (flags .result)) (sym (c .before .before .before .before .before .before .before .before .before .before .before .before .check-bits .ensures) ∙ c .before .before .before .before .before .before .before .before .before .before .enum-told2 .given .1) in
-    let resolve-passes = passed (resolveRefused (resolve .result)) (sym (c .before .before .before .before .before .before .before .before .before .check-bits2 .ensures) ∙ c .before .before .before .before .before .before .before .enum-told3 .given .1) in
-    let scopes-pass = passed (scopesRefused (resolve .result)) (sym (c .before .before .before .before .before .before .check-scopes .ensures) ∙ c .before .before .before .before .enum-told4 .given .1) in
-    rw (steps, length-passes, flags-pass, resolve-passes, scopes-pass, stopped (modeRefused how) (c .before .r5 .given .0 .0) (sym (c .before .before .before .check-mode .ensures) ∙ c .before .r5 .given .1))
+    let args = c .before .before .before .before .before .before .before .before .before .before .before .before .before .before .before .before .before .before .before .args in
+    let check-length = c .before .before .before .before .before .before .before .before .before .before .before .before .before .before .before .before .before .check-length in
+    let enum-told = c .before .before .before .before .before .before .before .before .before .before .before .before .before .before .before .enum-told in
+    let u64-at = c .before .before .before .before .before .before .before .before .before .before .before .before .before .before .u64-at in
+    let u64-at2 = c .before .before .before .before .before .before .before .before .before .before .before .before .before .u64-at2 in
+    let check-bits = c .before .before .before .before .before .before .before .before .before .before .before .before .check-bits in
+    let enum-told2 = c .before .before .before .before .before .before .before .before .before .before .enum-told2 in
+    let check-bits2 = c .before .before .before .before .before .before .before .before .before .check-bits2 in
+    let enum-told3 = c .before .before .before .before .before .before .before .enum-told3 in
+    let check-scopes = c .before .before .before .before .before .before .check-scopes in
+    let enum-told4 = c .before .before .before .before .enum-told4 in
+    let check-mode = c .before .before .before .check-mode in
+    let r5 = c .before .r5 in
+    let how = now (args .how) in
+    let steps = read-steps how (u64-at .result) (u64-at2 .result) (u64-at .ensures .0) (u64-at2 .ensures .0) in
+    let length-passes = passed (lengthRefused how) (sym (check-length .ensures) ∙ enum-told .given .1) in
+    let flags-pass = passed (flagsRefused (u64-at .result)) (sym (check-bits .ensures) ∙ enum-told2 .given .1) in
+    let resolve-passes = passed (resolveRefused (u64-at2 .result)) (sym (check-bits2 .ensures) ∙ enum-told3 .given .1) in
+    let scopes-pass = passed (scopesRefused (u64-at2 .result)) (sym (check-scopes .ensures) ∙ enum-told4 .given .1) in
+    rw (steps, length-passes, flags-pass, resolve-passes, scopes-pass, stopped (modeRefused how) (r5 .given .0 .0) (sym (check-mode .ensures) ∙ r5 .given .1))
 
 enum-told-5 : tie.Need-enum-told-5
 enum-told-5 c = search needs
@@ -118,17 +164,27 @@ enum-told-5 c = search needs
 returns-6 : tie.Need-returns-6
 unfolding readHow
 returns-6 c =
-    let how = now (c .before .before .before .before .before .before .before .before .before .before .before .before .before .before .before .before .before .before .args .how) in
-    let flags = c .before .before .before .before .before .before .before .before .before .before .before .before .before .u64-at in
-    let resolve = c .before .before .before .before .before .before .before .before .before .before .before .before .u64-at2 in
-    let steps = read-steps how (flags .result) (resolve .result) (flags .ensures .0) (resolve .ensures .0) in
-    let length-passes = passed (lengthRefused how) (sym (c .before .before .before .before .before .before .before .before .before .before .before .before .before .before .before .before .check-length .ensures) ∙ c .before .before .before .before .before .before .before .before .before .before .before .before .before .before .enum-told .given .1) in
-    let flags-pass = passed (flagsRefused (flags .result)) (sym (c .before .before .before .before .before .before .before .before .before .before .before .check-bits .ensures) ∙ c .before .before .before .before .before .before .before .before .before .enum-told2 .given .1) in
-    let resolve-passes = passed (resolveRefused (resolve .result)) (sym (c .before .before .before .before .before .before .before .before .check-bits2 .ensures) ∙ c .before .before .before .before .before .before .enum-told3 .given .1) in
-    let scopes-pass = passed (scopesRefused (resolve .result)) (sym (c .before .before .before .before .before .check-scopes .ensures) ∙ c .before .before .before .enum-told4 .given .1) in
-    let mode-passes = passed (modeRefused how) (sym (c .before .before .check-mode .ensures) ∙ c .enum-told5 .given .1) in
+    let args = c .before .before .before .before .before .before .before .before .before .before .before .before .before .before .before .before .before .before .args in
+    let check-length = c .before .before .before .before .before .before .before .before .before .before .before .before .before .before .before .before .check-length in
+    let enum-told = c .before .before .before .before .before .before .before .before .before .before .before .before .before .before .enum-told in
+    let u64-at = c .before .before .before .before .before .before .before .before .before .before .before .before .before .u64-at in
+    let u64-at2 = c .before .before .before .before .before .before .before .before .before .before .before .before .u64-at2 in
+    let check-bits = c .before .before .before .before .before .before .before .before .before .before .before .check-bits in
+    let enum-told2 = c .before .before .before .before .before .before .before .before .before .enum-told2 in
+    let check-bits2 = c .before .before .before .before .before .before .before .before .check-bits2 in
+    let enum-told3 = c .before .before .before .before .before .before .enum-told3 in
+    let check-scopes = c .before .before .before .before .before .check-scopes in
+    let enum-told4 = c .before .before .before .enum-told4 in
+    let check-mode = c .before .before .check-mode in
+    let how = now (args .how) in
+    let steps = read-steps how (u64-at .result) (u64-at2 .result) (u64-at .ensures .0) (u64-at2 .ensures .0) in
+    let length-passes = passed (lengthRefused how) (sym (check-length .ensures) ∙ enum-told .given .1) in
+    let flags-pass = passed (flagsRefused (u64-at .result)) (sym (check-bits .ensures) ∙ enum-told2 .given .1) in
+    let resolve-passes = passed (resolveRefused (u64-at2 .result)) (sym (check-bits2 .ensures) ∙ enum-told3 .given .1) in
+    let scopes-pass = passed (scopesRefused (u64-at2 .result)) (sym (check-scopes .ensures) ∙ enum-told4 .given .1) in
+    let mode-passes = passed (modeRefused how) (sym (check-mode .ensures) ∙ c .enum-told5 .given .1) in
     rw (steps, length-passes, flags-pass, resolve-passes, scopes-pass, mode-passes)
-    (ap Fields (sym (read-fields how (flags .result) (resolve .result) (flags .ensures .0) (resolve .ensures .0))))
+    (ap Fields (sym (read-fields how (u64-at .result) (u64-at2 .result) (u64-at .ensures .0) (u64-at2 .ensures .0))))
 
 pub read-how-spec : {M : Type 1} → statement M
 read-how-spec =

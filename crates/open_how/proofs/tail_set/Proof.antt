@@ -36,17 +36,23 @@ loop-less c = omega arith
 
 loop-again : tie.Need-loop-again Inv-loop μ-loop
 loop-again c =
-    let s = now (c .before .before .before .before .args .how) in
-    let i = c .before .before .before .loop .i in
+    let args = c .before .before .before .before .args in
+    let loop = c .before .before .before .loop in
+    let loop-test = c .before .before .loop-test in
+    let s = now (args .how) in
+    let i = loop .i in
     let test : ℕ → Bool = λ k. not (eqb (getD s k 0) 0) in
-    c .before .before .before .loop .inv
+    loop .inv
     ∙ ⊎-elim
-    (λ w. any-hit test i (length s) (c .before .before .before .loop .set) (c .before .before .loop-test .taken) (ap not (ne-eqb (getD s i 0) 0 (w .0 .taken))) ∙ rw (w .1))
-    (λ w. any-miss test i (length s) (c .before .before .before .loop .set) (c .before .before .loop-test .taken) (ap not (eq-eqb (getD s i 0) 0 (w .0 .left))) ∙ rw (w .1))
+    (λ w. any-hit test i (length s) (loop .set) (loop-test .taken) (ap not (ne-eqb (getD s i 0) 0 (w .0 .taken))) ∙ rw (w .1))
+    (λ w. any-miss test i (length s) (loop .set) (loop-test .taken) (ap not (eq-eqb (getD s i 0) 0 (w .0 .left))) ∙ rw (w .1))
     (c .if1 .came)
 
 returns : tie.Need-returns Inv-loop μ-loop
-returns c = sym (c .before .loop .inv ∙ any-done (λ k. not (eqb (getD (now (c .before .before .args .how)) k 0) 0)) (c .before .loop .i) (length (now (c .before .before .args .how))) (c .before .loop .set) (c .loop-test .left))
+returns c =
+    let args = c .before .before .args in
+    let loop = c .before .loop in
+    sym (loop .inv ∙ any-done (λ k. not (eqb (getD (now (args .how)) k 0) 0)) (loop .i) (length (now (args .how))) (loop .set) (c .loop-test .left))
 
 pub tail-set-spec : {M : Type 1} → statement M
 tail-set-spec =

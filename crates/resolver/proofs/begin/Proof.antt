@@ -18,26 +18,33 @@ finish-requires c κs = search needs
 
 returns : tie.Need-returns
 returns c =
-    let a = c .before .before .before .before .before .args in
-    let path = now (a .path) in
-    c .finish .ensures ∙ begin-ended (now (a .image)) path path (a .k) (a .p) (a .directory) (sym (start-past path) ∙ sym (c .before .before .skip-slashes .ensures) ∙ c .before .if1 .taken)
+    let args = c .before .before .before .before .before .args in
+    let skip-slashes = c .before .before .skip-slashes in
+    let if1 = c .before .if1 in
+    let path = now (args .path) in
+    c .finish .ensures ∙ begin-ended (now (args .image)) path path (args .k) (args .p) (args .directory) (sym (start-past path) ∙ sym (skip-slashes .ensures) ∙ if1 .taken)
 
 slice-aggregate-run : tie.Need-slice-aggregate-run
 slice-aggregate-run c = search needs
 
 run-requires : tie.Need-run-requires
 run-requires c κs =
-    let a = c .before .before .before .before .before .args in
-    let path = now (a .path) in
-    let e : c .before .before .skip-slashes .result ≡ slashes path = c .before .before .skip-slashes .ensures ∙ start-past path in
-    (c .before .before .before .before .before .pre .0, subst (λ m. Ready (now (a .image)) path _ (walkAt (a .p) (a .directory) m)) (sym e) (begin-ready (now (a .image)) path _ (a .k) (a .p) (a .directory) (c .before .before .before .before .before .pre .1) (c .before .before .before .before .before .pre .2) refl (omega (arith, e, start-past path, past-within path 0 (omega arith), c .before .if1 .left))))
+    let args = c .before .before .before .before .before .args in
+    let pre = c .before .before .before .before .before .pre in
+    let skip-slashes = c .before .before .skip-slashes in
+    let if1 = c .before .if1 in
+    let path = now (args .path) in
+    let e : skip-slashes .result ≡ slashes path = skip-slashes .ensures ∙ start-past path in
+    (pre .0, subst (λ m. Ready (now (args .image)) path _ (walkAt (args .p) (args .directory) m)) (sym e) (begin-ready (now (args .image)) path _ (args .k) (args .p) (args .directory) (pre .1) (pre .2) refl (omega (arith, e, start-past path, past-within path 0 (omega arith), if1 .left))))
 
 returns-2 : tie.Need-returns-2
 returns-2 c =
-    let a = c .before .before .before .before .before .before .before .args in
-    let path = now (a .path) in
-    let e : c .before .before .before .before .skip-slashes .result ≡ slashes path = c .before .before .before .before .skip-slashes .ensures ∙ start-past path in
-    c .before .run .ensures ∙ ap (λ m. rest (now (a .image)) (a .k) path _ (walkAt (a .p) (a .directory) m)) e ∙ begin-rest (now (a .image)) path _ (a .k) (a .p) (a .directory)
+    let args = c .before .before .before .before .before .before .before .args in
+    let skip-slashes = c .before .before .before .before .skip-slashes in
+    let run = c .before .run in
+    let path = now (args .path) in
+    let e : skip-slashes .result ≡ slashes path = skip-slashes .ensures ∙ start-past path in
+    run .ensures ∙ ap (λ m. rest (now (args .image)) (args .k) path _ (walkAt (args .p) (args .directory) m)) e ∙ begin-rest (now (args .image)) path _ (args .k) (args .p) (args .directory)
 
 pub begin-spec : {M : Type 1} → statement M
 begin-spec =

@@ -29,7 +29,10 @@ returns c = (c .resolve-accepted .ensures .0, c .resolve-accepted .ensures .1, r
 
 returns-2 : tie.Need-returns-2
 returns-2 c =
-    let e = c .refuse .ensures ∙ broken-call (now (c .before .before .before .before .before .before .before .args .image)) (c .before .before .before .before .before .before .before .args .h) (now (c .before .before .before .before .before .before .before .args .path)) (now (c .before .before .before .before .before .before .before .args .how)) _ _ (sym (c .before .before .before .check .ensures .0) ∙ c .before .enum-told2 .given .1) in
+    let args = c .before .before .before .before .before .before .before .args in
+    let check = c .before .before .before .check in
+    let enum-told2 = c .before .enum-told2 in
+    let e = c .refuse .ensures ∙ broken-call (now (args .image)) (args .h) (now (args .path)) (now (args .how)) _ _ (sym (check .ensures .0) ∙ enum-told2 .given .1) in
     (e, subst (λ a. Bounded (progressOf a)) (sym e) (every-walk-bounded _ _ _ _), refl, refl, refl)
 
 pub resolve-spec : {M : Type 1} → statement M

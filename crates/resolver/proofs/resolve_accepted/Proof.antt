@@ -21,13 +21,15 @@ read-counts-requires c κs = omega (arith, accepted-sized (now (c .before .befor
 
 check-call-requires : tie.Need-check-call-requires
 check-call-requires c κs =
-    let s = now (c .before .before .before .before .args .image) in
-    let path = now (c .before .before .before .before .args .path) in
-    let how = now (c .before .before .before .before .args .how) in
-    let h = c .before .before .before .before .args .h in
+    let args = c .before .before .before .before .args in
+    let pre = c .before .before .before .before .pre in
+    let s = now (args .image) in
+    let path = now (args .path) in
+    let how = now (args .how) in
+    let h = args .h in
     let r = c .read-counts .ensures in
-    let counts : Counted s (c .read-counts .result) = counted (accepted-sized s (c .before .before .before .before .pre)) r in
-    (counts, c .before .before .before .before .pre)
+    let counts : Counted s (c .read-counts .result) = counted (accepted-sized s (pre)) r in
+    (counts, pre)
 
 enum-known-read : tie.Need-enum-known-read
 enum-known-read c = search needs
@@ -37,50 +39,73 @@ ends-in-slash-requires c κs = search needs
 
 ask-requires : tie.Need-ask-requires
 ask-requires c κs =
-    let s = now (c .before .before .before .before .before .before .before .before .before .args .image) in
-    let path = now (c .before .before .before .before .before .before .before .before .before .args .path) in
-    let how = now (c .before .before .before .before .before .before .before .before .before .args .how) in
-    let h = c .before .before .before .before .before .before .before .before .before .args .h in
-    let r = c .before .before .before .before .before .read-counts .ensures in
-    let counts : Counted s (c .before .before .before .before .before .read-counts .result) = counted (accepted-sized s (c .before .before .before .before .before .before .before .before .before .pre)) r in
-    record { counted = counts; accepted = c .before .before .before .before .before .before .before .before .before .pre }
+    let args = c .before .before .before .before .before .before .before .before .before .args in
+    let pre = c .before .before .before .before .before .before .before .before .before .pre in
+    let read-counts = c .before .before .before .before .before .read-counts in
+    let s = now (args .image) in
+    let path = now (args .path) in
+    let how = now (args .how) in
+    let h = args .h in
+    let r = read-counts .ensures in
+    let counts : Counted s (read-counts .result) = counted (accepted-sized s (pre)) r in
+    record { counted = counts; accepted = pre }
 
 needs-directory-requires : tie.Need-needs-directory-requires
 needs-directory-requires c κs = search needs
 
 walk-path-requires : tie.Need-walk-path-requires
 walk-path-requires c κs =
-    let s = now (c .before .before .before .before .before .before .before .before .before .before .before .args .image) in
-    let path = now (c .before .before .before .before .before .before .before .before .before .before .before .args .path) in
-    let how = now (c .before .before .before .before .before .before .before .before .before .before .before .args .how) in
-    let h = c .before .before .before .before .before .before .before .before .before .before .before .args .h in
-    let r = c .before .before .before .before .before .before .before .read-counts .ensures in
-    let counts : Counted s (c .before .before .before .before .before .before .before .read-counts .result) = counted (accepted-sized s (c .before .before .before .before .before .before .before .before .before .before .before .pre)) r in
-    let b = walks-none (refusedBefore s h path how) (fieldsOf how) (c .before .before .before .before .read .given .0 .0) (sym (accepted-call s h path how (c .before .before .before .before .before .before .before .before .before .before .before .pre)) ∙ sym (c .before .before .before .before .before .before .check-call .ensures) ∙ c .before .before .before .before .read .given .1) in
-    walking-of s h path how (c .before .before .before .before .before .before .before .read-counts .result) (c .before .before .before .before .read .given .0 .0) (c .before .before .ends-in-slash .result) (c .before .ask .result) (record { counted = counts; accepted = c .before .before .before .before .before .before .before .before .before .before .before .pre }) (b .0) (c .before .ask .ensures)
+    let args = c .before .before .before .before .before .before .before .before .before .before .before .args in
+    let pre = c .before .before .before .before .before .before .before .before .before .before .before .pre in
+    let read-counts = c .before .before .before .before .before .before .before .read-counts in
+    let check-call = c .before .before .before .before .before .before .check-call in
+    let read = c .before .before .before .before .read in
+    let ends-in-slash = c .before .before .ends-in-slash in
+    let ask = c .before .ask in
+    let s = now (args .image) in
+    let path = now (args .path) in
+    let how = now (args .how) in
+    let h = args .h in
+    let r = read-counts .ensures in
+    let counts : Counted s (read-counts .result) = counted (accepted-sized s (pre)) r in
+    let b = walks-none (refusedBefore s h path how) (fieldsOf how) (read .given .0 .0) (sym (accepted-call s h path how (pre)) ∙ sym (check-call .ensures) ∙ read .given .1) in
+    walking-of s h path how (read-counts .result) (read .given .0 .0) (ends-in-slash .result) (ask .result) (record { counted = counts; accepted = pre }) (b .0) (ask .ensures)
 
 enum-known-read-2 : tie.Need-enum-known-read-2
 enum-known-read-2 c = search needs
 
 returns : tie.Need-returns
 returns c =
-    let s = now (c .before .before .before .before .before .before .before .before .before .before .before .before .args .image) in
-    let path = now (c .before .before .before .before .before .before .before .before .before .before .before .before .args .path) in
-    let how = now (c .before .before .before .before .before .before .before .before .before .before .before .before .args .how) in
-    let h = c .before .before .before .before .before .before .before .before .before .before .before .before .args .h in
-    let r = c .before .before .before .before .before .before .before .before .read-counts .ensures in
-    let b = walks-none (refusedBefore s h path how) (fieldsOf how) (c .before .before .before .before .before .read .given .0 .0) (sym (accepted-call s h path how (c .before .before .before .before .before .before .before .before .before .before .before .before .pre)) ∙ sym (c .before .before .before .before .before .before .before .check-call .ensures) ∙ c .before .before .before .before .before .read .given .1) in
-    let e = c .walk-path .ensures ∙ walked s h path how (c .before .before .before .before .before .read .given .0 .0) (c .before .before .before .ends-in-slash .result) (c .before .before .ask .result) (c .before .needs-directory .result) (b .0) (b .1) (c .before .before .before .ends-in-slash .ensures) (c .before .before .ask .ensures) (c .before .needs-directory .ensures) in
+    let args = c .before .before .before .before .before .before .before .before .before .before .before .before .args in
+    let pre = c .before .before .before .before .before .before .before .before .before .before .before .before .pre in
+    let read-counts = c .before .before .before .before .before .before .before .before .read-counts in
+    let check-call = c .before .before .before .before .before .before .before .check-call in
+    let read = c .before .before .before .before .before .read in
+    let ends-in-slash = c .before .before .before .ends-in-slash in
+    let needs-directory = c .before .needs-directory in
+    let ask = c .before .before .ask in
+    let s = now (args .image) in
+    let path = now (args .path) in
+    let how = now (args .how) in
+    let h = args .h in
+    let r = read-counts .ensures in
+    let b = walks-none (refusedBefore s h path how) (fieldsOf how) (read .given .0 .0) (sym (accepted-call s h path how (pre)) ∙ sym (check-call .ensures) ∙ read .given .1) in
+    let e = c .walk-path .ensures ∙ walked s h path how (read .given .0 .0) (ends-in-slash .result) (ask .result) (needs-directory .result) (b .0) (b .1) (ends-in-slash .ensures) (ask .ensures) (needs-directory .ensures) in
     (e, subst (λ a. Bounded (progressOf a)) (sym e) (every-walk-bounded s h path how), refl, refl, refl)
 
 returns-2 : tie.Need-returns-2
 returns-2 c =
-    let s = now (c .before .before .before .before .before .before .before .before .args .image) in
-    let path = now (c .before .before .before .before .before .before .before .before .args .path) in
-    let how = now (c .before .before .before .before .before .before .before .before .args .how) in
-    let h = c .before .before .before .before .before .before .before .before .args .h in
-    let r = c .before .before .before .before .read-counts .ensures in
-    let e = refused-call s h path how (c .before .read2 .given .0 .0) (refused-some (refusedBefore s h path how) (fieldsOf how) (c .before .read2 .given .0 .0) (sym (accepted-call s h path how (c .before .before .before .before .before .before .before .before .pre)) ∙ sym (c .before .before .before .check-call .ensures) ∙ c .before .read2 .given .1)) in
+    let args = c .before .before .before .before .before .before .before .before .args in
+    let pre = c .before .before .before .before .before .before .before .before .pre in
+    let read-counts = c .before .before .before .before .read-counts in
+    let check-call = c .before .before .before .check-call in
+    let read2 = c .before .read2 in
+    let s = now (args .image) in
+    let path = now (args .path) in
+    let how = now (args .how) in
+    let h = args .h in
+    let r = read-counts .ensures in
+    let e = refused-call s h path how (read2 .given .0 .0) (refused-some (refusedBefore s h path how) (fieldsOf how) (read2 .given .0 .0) (sym (accepted-call s h path how (pre)) ∙ sym (check-call .ensures) ∙ read2 .given .1)) in
     (e, subst (λ a. Bounded (progressOf a)) (sym e) (every-walk-bounded s h path how), refl, refl, refl)
 
 pub resolve-accepted-spec : {M : Type 1} → statement M

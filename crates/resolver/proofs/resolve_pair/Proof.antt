@@ -12,17 +12,18 @@ resolve-requires-2 : tie.Need-resolve-requires-2
 resolve-requires-2 c κs = search needs
 
 returns : tie.Need-returns
-returns c = (
-  record {
-    firstAnswer = c .before .resolve .ensures .0;
-    secondAnswer = c .resolve2 .ensures .0;
-    onlyStops = only-stops-answers _ _ _ _ _ _ (c .before .resolve .ensures .0) (c .resolve2 .ensures .0);
-  },
-  refl,
-  refl,
-  refl,
-  refl,
-)
+returns c =
+    let resolve = c .before .resolve in (
+      record {
+        firstAnswer = resolve .ensures .0;
+        secondAnswer = c .resolve2 .ensures .0;
+        onlyStops = only-stops-answers _ _ _ _ _ _ (resolve .ensures .0) (c .resolve2 .ensures .0);
+      },
+      refl,
+      refl,
+      refl,
+      refl,
+    )
 
 pub resolve-pair-spec : {M : Type 1} → statement M
 resolve-pair-spec = tie.close (tie.spec resolve-requires resolve-requires-2 returns)

@@ -14,7 +14,9 @@ returns : tie.Need-returns
 returns c = rw (sym (c .before .has .ensures) ∙ c .if1 .taken)
 
 mount-root-requires : tie.Need-mount-root-requires
-mount-root-requires c κs = (c .before .before .before .pre .counted, c .before .before .before .pre .counted .sized .some-mount)
+mount-root-requires c κs =
+    let pre = c .before .before .before .pre in
+    (pre .counted, pre .counted .sized .some-mount)
 
 returns-2 : tie.Need-returns-2
 unfolding rootOf

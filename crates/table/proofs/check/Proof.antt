@@ -27,7 +27,10 @@ is-signed-requires c κs = search needs
 
 returns-3 : tie.Need-returns-3
 unfolding tableCheck rule1 rule2
-returns-3 c = (rw (le-leb 20 (length (now (c .before .before .before .before .before .args .image))) (omega arith), le-leb (length (now (c .before .before .before .before .before .args .image))) 65536 (omega arith), sym (c .before .is-signed .ensures) ∙ not-true _ (c .if3 .taken)), refl)
+returns-3 c =
+    let args = c .before .before .before .before .before .args in
+    let is-signed = c .before .is-signed in
+    (rw (le-leb 20 (length (now (args .image))) (omega arith), le-leb (length (now (args .image))) 65536 (omega arith), sym (is-signed .ensures) ∙ not-true _ (c .if3 .taken)), refl)
 
 read-counts-requires : tie.Need-read-counts-requires
 read-counts-requires c κs = search needs
@@ -41,7 +44,12 @@ sizes-fit-requires c κs = (omega arith, c .before .read-counts .ensures, c .tex
 
 returns-4 : tie.Need-returns-4
 unfolding tableCheck rule1 rule2 rule3
-returns-4 c = (rw (le-leb 20 (length (now (c .before .before .before .before .before .before .before .before .before .args .image))) (omega arith), le-leb (length (now (c .before .before .before .before .before .before .before .before .before .args .image))) 65536 (omega arith), sym (c .before .before .before .before .before .is-signed .ensures) ∙ not-false _ (c .before .before .before .before .if3 .left), sym (c .before .sizes-fit .ensures) ∙ not-true _ (c .if4 .taken)), refl)
+returns-4 c =
+    let args = c .before .before .before .before .before .before .before .before .before .args in
+    let is-signed = c .before .before .before .before .before .is-signed in
+    let if3 = c .before .before .before .before .if3 in
+    let sizes-fit = c .before .sizes-fit in
+    (rw (le-leb 20 (length (now (args .image))) (omega arith), le-leb (length (now (args .image))) 65536 (omega arith), sym (is-signed .ensures) ∙ not-false _ (if3 .left), sym (sizes-fit .ensures) ∙ not-true _ (c .if4 .taken)), refl)
 
 check-records-requires : tie.Need-check-records-requires
 unfolding rule1 rule3
@@ -55,7 +63,12 @@ check-records-requires c κs =
 returns-5 : tie.Need-returns-5
 unfolding tableCheck rule1 rule2 rule3
 returns-5 c =
-    (c .check-records .ensures ∙ rw (le-leb 20 (length (now (c .before .before .before .before .before .before .before .before .before .before .args .image))) (omega arith), le-leb (length (now (c .before .before .before .before .before .before .before .before .before .before .args .image))) 65536 (omega arith), sym (c .before .before .before .before .before .before .is-signed .ensures) ∙ not-false _ (c .before .before .before .before .before .if3 .left), sym (c .before .before .sizes-fit .ensures) ∙ not-false _ (c .before .if4 .left)), refl)
+    let args = c .before .before .before .before .before .before .before .before .before .before .args in
+    let is-signed = c .before .before .before .before .before .before .is-signed in
+    let if3 = c .before .before .before .before .before .if3 in
+    let sizes-fit = c .before .before .sizes-fit in
+    let if4 = c .before .if4 in
+    (c .check-records .ensures ∙ rw (le-leb 20 (length (now (args .image))) (omega arith), le-leb (length (now (args .image))) 65536 (omega arith), sym (is-signed .ensures) ∙ not-false _ (if3 .left), sym (sizes-fit .ensures) ∙ not-false _ (if4 .left)), refl)
 
 pub check-spec : {M : Type 1} → statement M
 check-spec =

@@ -18,8 +18,11 @@ enum-known-node c = search needs
 returns : tie.Need-returns
 unfolding recordsCheck
 returns c =
-    let t = treeOf (now (c .before .before .before .before .before .args .image)) in
-    let r = search-at (rule4 t) (c .before .node .given .0 .0) (sym (c .before .before .before .first-bad-node .ensures) ∙ c .before .node .given .1) in
+    let args = c .before .before .before .before .before .args in
+    let first-bad-node = c .before .before .before .first-bad-node in
+    let node = c .before .node in
+    let t = treeOf (now (args .image)) in
+    let r = search-at (rule4 t) (node .given .0 .0) (sym (first-bad-node .ensures) ∙ node .given .1) in
     rw r
 
 enum-told : tie.Need-enum-told
@@ -27,9 +30,10 @@ enum-told c = search needs
 
 first-bad-entry-requires : tie.Need-first-bad-entry-requires
 first-bad-entry-requires c κs =
+    let pre = c .before .before .before .before .pre in
     let t = treeOf (now (c .before .before .before .before .args .image)) in
     let four = search-nowhere (rule4 t) (sym (c .before .before .first-bad-node .ensures) ∙ c .enum-told .given .1) in
-    (c .before .before .before .before .pre .0, rule4-nodes t four, c .before .before .before .before .pre .1)
+    (pre .0, rule4-nodes t four, pre .1)
 
 enum-known-entry : tie.Need-enum-known-entry
 enum-known-entry c = search needs
@@ -37,9 +41,14 @@ enum-known-entry c = search needs
 returns-2 : tie.Need-returns-2
 unfolding recordsCheck
 returns-2 c =
-    let t = treeOf (now (c .before .before .before .before .before .before .before .before .args .image)) in
-    let four = search-nowhere (rule4 t) (sym (c .before .before .before .before .before .before .first-bad-node .ensures) ∙ c .before .before .before .before .enum-told .given .1) in
-    let r = search-at (rule5 t) (c .before .entry .given .0 .0) (sym (c .before .before .before .first-bad-entry .ensures) ∙ c .before .entry .given .1) in
+    let args = c .before .before .before .before .before .before .before .before .args in
+    let first-bad-node = c .before .before .before .before .before .before .first-bad-node in
+    let enum-told = c .before .before .before .before .enum-told in
+    let first-bad-entry = c .before .before .before .first-bad-entry in
+    let entry = c .before .entry in
+    let t = treeOf (now (args .image)) in
+    let four = search-nowhere (rule4 t) (sym (first-bad-node .ensures) ∙ enum-told .given .1) in
+    let r = search-at (rule5 t) (entry .given .0 .0) (sym (first-bad-entry .ensures) ∙ entry .given .1) in
     rw (four, r)
 
 enum-told-2 : tie.Need-enum-told-2
@@ -47,9 +56,13 @@ enum-told-2 c = search needs
 
 first-bad-mount-requires : tie.Need-first-bad-mount-requires
 first-bad-mount-requires c κs =
-    let t = treeOf (now (c .before .before .before .before .before .before .before .args .image)) in
-    let four = search-nowhere (rule4 t) (sym (c .before .before .before .before .before .first-bad-node .ensures) ∙ c .before .before .before .enum-told .given .1) in
-    (c .before .before .before .before .before .before .before .pre .0, rule4-nodes t four)
+    let args = c .before .before .before .before .before .before .before .args in
+    let pre = c .before .before .before .before .before .before .before .pre in
+    let first-bad-node = c .before .before .before .before .before .first-bad-node in
+    let enum-told = c .before .before .before .enum-told in
+    let t = treeOf (now (args .image)) in
+    let four = search-nowhere (rule4 t) (sym (first-bad-node .ensures) ∙ enum-told .given .1) in
+    (pre .0, rule4-nodes t four)
 
 enum-known-mount : tie.Need-enum-known-mount
 enum-known-mount c = search needs
@@ -57,10 +70,17 @@ enum-known-mount c = search needs
 returns-3 : tie.Need-returns-3
 unfolding recordsCheck
 returns-3 c =
-    let t = treeOf (now (c .before .before .before .before .before .before .before .before .before .before .before .args .image)) in
-    let four = search-nowhere (rule4 t) (sym (c .before .before .before .before .before .before .before .before .before .first-bad-node .ensures) ∙ c .before .before .before .before .before .before .before .enum-told .given .1) in
-    let five = search-nowhere (rule5 t) (sym (c .before .before .before .before .before .before .first-bad-entry .ensures) ∙ c .before .before .before .before .enum-told2 .given .1) in
-    let r = search-at (rule6 t) (c .before .mount .given .0 .0) (sym (c .before .before .before .first-bad-mount .ensures) ∙ c .before .mount .given .1) in
+    let args = c .before .before .before .before .before .before .before .before .before .before .before .args in
+    let first-bad-node = c .before .before .before .before .before .before .before .before .before .first-bad-node in
+    let enum-told = c .before .before .before .before .before .before .before .enum-told in
+    let first-bad-entry = c .before .before .before .before .before .before .first-bad-entry in
+    let enum-told2 = c .before .before .before .before .enum-told2 in
+    let first-bad-mount = c .before .before .before .first-bad-mount in
+    let mount = c .before .mount in
+    let t = treeOf (now (args .image)) in
+    let four = search-nowhere (rule4 t) (sym (first-bad-node .ensures) ∙ enum-told .given .1) in
+    let five = search-nowhere (rule5 t) (sym (first-bad-entry .ensures) ∙ enum-told2 .given .1) in
+    let r = search-at (rule6 t) (mount .given .0 .0) (sym (first-bad-mount .ensures) ∙ mount .given .1) in
     rw (four, five, r)
 
 enum-told-3 : tie.Need-enum-told-3
@@ -68,10 +88,15 @@ enum-told-3 c = search needs
 
 first-bad-target-requires : tie.Need-first-bad-target-requires
 first-bad-target-requires c κs =
-    let t = treeOf (now (c .before .before .before .before .before .before .before .before .before .before .args .image)) in
-    let four = search-nowhere (rule4 t) (sym (c .before .before .before .before .before .before .before .before .first-bad-node .ensures) ∙ c .before .before .before .before .before .before .enum-told .given .1) in
-    let six = search-nowhere (rule6 t) (sym (c .before .before .first-bad-mount .ensures) ∙ c .enum-told3 .given .1) in
-    (c .before .before .before .before .before .before .before .before .before .before .pre .0, rule4-nodes t four, rule6-mounts t (c .before .before .before .before .before .before .before .before .before .before .pre .0 .sized .some-mount) six)
+    let args = c .before .before .before .before .before .before .before .before .before .before .args in
+    let pre = c .before .before .before .before .before .before .before .before .before .before .pre in
+    let first-bad-node = c .before .before .before .before .before .before .before .before .first-bad-node in
+    let enum-told = c .before .before .before .before .before .before .enum-told in
+    let first-bad-mount = c .before .before .first-bad-mount in
+    let t = treeOf (now (args .image)) in
+    let four = search-nowhere (rule4 t) (sym (first-bad-node .ensures) ∙ enum-told .given .1) in
+    let six = search-nowhere (rule6 t) (sym (first-bad-mount .ensures) ∙ c .enum-told3 .given .1) in
+    (pre .0, rule4-nodes t four, rule6-mounts t (pre .0 .sized .some-mount) six)
 
 enum-known-target : tie.Need-enum-known-target
 enum-known-target c = search needs
@@ -79,11 +104,20 @@ enum-known-target c = search needs
 returns-4 : tie.Need-returns-4
 unfolding recordsCheck
 returns-4 c =
-    let t = treeOf (now (c .before .before .before .before .before .before .before .before .before .before .before .before .before .before .args .image)) in
-    let four = search-nowhere (rule4 t) (sym (c .before .before .before .before .before .before .before .before .before .before .before .before .first-bad-node .ensures) ∙ c .before .before .before .before .before .before .before .before .before .before .enum-told .given .1) in
-    let five = search-nowhere (rule5 t) (sym (c .before .before .before .before .before .before .before .before .before .first-bad-entry .ensures) ∙ c .before .before .before .before .before .before .before .enum-told2 .given .1) in
-    let six = search-nowhere (rule6 t) (sym (c .before .before .before .before .before .before .first-bad-mount .ensures) ∙ c .before .before .before .before .enum-told3 .given .1) in
-    let r = search-at (rule7 t) (c .before .target .given .0 .0) (sym (c .before .before .before .first-bad-target .ensures) ∙ c .before .target .given .1) in
+    let args = c .before .before .before .before .before .before .before .before .before .before .before .before .before .before .args in
+    let first-bad-node = c .before .before .before .before .before .before .before .before .before .before .before .before .first-bad-node in
+    let enum-told = c .before .before .before .before .before .before .before .before .before .before .enum-told in
+    let first-bad-entry = c .before .before .before .before .before .before .before .before .before .first-bad-entry in
+    let enum-told2 = c .before .before .before .before .before .before .before .enum-told2 in
+    let first-bad-mount = c .before .before .before .before .before .before .first-bad-mount in
+    let enum-told3 = c .before .before .before .before .enum-told3 in
+    let first-bad-target = c .before .before .before .first-bad-target in
+    let target = c .before .target in
+    let t = treeOf (now (args .image)) in
+    let four = search-nowhere (rule4 t) (sym (first-bad-node .ensures) ∙ enum-told .given .1) in
+    let five = search-nowhere (rule5 t) (sym (first-bad-entry .ensures) ∙ enum-told2 .given .1) in
+    let six = search-nowhere (rule6 t) (sym (first-bad-mount .ensures) ∙ enum-told3 .given .1) in
+    let r = search-at (rule7 t) (target .given .0 .0) (sym (first-bad-target .ensures) ∙ target .given .1) in
     rw (four, five, six, r)
 
 enum-told-4 : tie.Need-enum-told-4
@@ -92,11 +126,19 @@ enum-told-4 c = search needs
 returns-5 : tie.Need-returns-5
 unfolding recordsCheck
 returns-5 c =
-    let t = treeOf (now (c .before .before .before .before .before .before .before .before .before .before .before .before .before .args .image)) in
-    let four = search-nowhere (rule4 t) (sym (c .before .before .before .before .before .before .before .before .before .before .before .first-bad-node .ensures) ∙ c .before .before .before .before .before .before .before .before .before .enum-told .given .1) in
-    let five = search-nowhere (rule5 t) (sym (c .before .before .before .before .before .before .before .before .first-bad-entry .ensures) ∙ c .before .before .before .before .before .before .enum-told2 .given .1) in
-    let six = search-nowhere (rule6 t) (sym (c .before .before .before .before .before .first-bad-mount .ensures) ∙ c .before .before .before .enum-told3 .given .1) in
-    let seven = search-nowhere (rule7 t) (sym (c .before .before .first-bad-target .ensures) ∙ c .enum-told4 .given .1) in
+    let args = c .before .before .before .before .before .before .before .before .before .before .before .before .before .args in
+    let first-bad-node = c .before .before .before .before .before .before .before .before .before .before .before .first-bad-node in
+    let enum-told = c .before .before .before .before .before .before .before .before .before .enum-told in
+    let first-bad-entry = c .before .before .before .before .before .before .before .before .first-bad-entry in
+    let enum-told2 = c .before .before .before .before .before .before .enum-told2 in
+    let first-bad-mount = c .before .before .before .before .before .first-bad-mount in
+    let enum-told3 = c .before .before .before .enum-told3 in
+    let first-bad-target = c .before .before .first-bad-target in
+    let t = treeOf (now (args .image)) in
+    let four = search-nowhere (rule4 t) (sym (first-bad-node .ensures) ∙ enum-told .given .1) in
+    let five = search-nowhere (rule5 t) (sym (first-bad-entry .ensures) ∙ enum-told2 .given .1) in
+    let six = search-nowhere (rule6 t) (sym (first-bad-mount .ensures) ∙ enum-told3 .given .1) in
+    let seven = search-nowhere (rule7 t) (sym (first-bad-target .ensures) ∙ c .enum-told4 .given .1) in
     rw (four, five, six, seven)
 
 pub check-records-spec : {M : Type 1} → statement M

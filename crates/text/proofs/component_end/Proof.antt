@@ -23,7 +23,11 @@ shared-slice-read-if1 : tie.Need-shared-slice-read-if1 Inv-loop μ-loop
 shared-slice-read-if1 c = omega arith
 
 returns : tie.Need-returns Inv-loop μ-loop
-returns c = sym (c .before .before .before .loop .inv ∙ end-here (now (c .before .before .before .before .args .s)) (c .before .before .before .loop .end) (c .before .before .loop-test .taken) (c .if1 .taken))
+returns c =
+    let args = c .before .before .before .before .args in
+    let loop = c .before .before .before .loop in
+    let loop-test = c .before .before .loop-test in
+    sym (loop .inv ∙ end-here (now (args .s)) (loop .end) (loop-test .taken) (c .if1 .taken))
 
 add-end : tie.Need-add-end Inv-loop μ-loop
 add-end c = omega arith
@@ -32,10 +36,16 @@ loop-less : tie.Need-loop-less Inv-loop μ-loop
 loop-less c = omega arith
 
 loop-again : tie.Need-loop-again Inv-loop μ-loop
-loop-again c = c .before .before .before .loop .inv ∙ end-on (now (c .before .before .before .before .args .s)) (c .before .before .before .loop .end) (c .before .before .loop-test .taken) (c .if1 .left)
+loop-again c =
+    let args = c .before .before .before .before .args in
+    let loop = c .before .before .before .loop in
+    let loop-test = c .before .before .loop-test in
+    loop .inv ∙ end-on (now (args .s)) (loop .end) (loop-test .taken) (c .if1 .left)
 
 returns-2 : tie.Need-returns-2 Inv-loop μ-loop
-returns-2 c = sym (c .before .loop .inv ∙ end-done (now (c .before .before .args .s)) (c .before .loop .end) (c .loop-test .left))
+returns-2 c =
+    let loop = c .before .loop in
+    sym (loop .inv ∙ end-done (now (c .before .before .args .s)) (loop .end) (c .loop-test .left))
 
 pub component-end-spec : {M : Type 1} → statement M
 component-end-spec =

@@ -8,7 +8,9 @@ use Rattle.text.proofs.name_of.Statement.{statement}
 use Rattle.text.proofs.name_of.Tie as tie
 
 text-of-requires : tie.Need-text-of-requires
-text-of-requires c κs = (c .before .before .pre .0, c .before .before .pre .1)
+text-of-requires c κs =
+    let pre = c .before .before .pre in
+    (pre .0, pre .1)
 
 sub-result : tie.Need-sub-result
 sub-result c = search needs
@@ -20,7 +22,10 @@ part-result-end : tie.Need-part-result-end
 part-result-end c = omega (arith, ap length (c .text-of .ensures), c .before .before .before .pre .3)
 
 returns : tie.Need-returns
-returns c = ap (λ s. between s (c .before .before .before .before .args .at) (c .before .before .before .before .args .end)) (c .before .text-of .ensures)
+returns c =
+    let args = c .before .before .before .before .args in
+    let text-of = c .before .text-of in
+    ap (λ s. between s (args .at) (args .end)) (text-of .ensures)
 
 pub name-of-spec : {M : Type 1} → statement M
 name-of-spec = tie.close (tie.spec text-of-requires sub-result part-result-start part-result-end returns)

@@ -30,15 +30,23 @@ same-length : tie.Need-same-length
 same-length c = search needs
 
 returns : tie.Need-returns
-returns c = c .before .before .put6 .ensures ∙ ap (λ a. answerNumbers a ++ drop 6 (now (c .before .before .before .before .before .before .before .before .before .before .args .out))) (sym (c .before .before .before .before .before .before .before .a .given .1))
+returns c =
+    let args = c .before .before .before .before .before .before .before .before .before .before .args in
+    let a = c .before .before .before .before .before .before .before .a in
+    let put6 = c .before .before .put6 in
+    put6 .ensures ∙ ap (λ a. answerNumbers a ++ drop 6 (now (args .out))) (sym (a .given .1))
 
 same-length-2 : tie.Need-same-length-2
 same-length-2 c = search needs
 
 returns-2 : tie.Need-returns-2
 returns-2 c =
-    c .before .before .put62 .ensures ∙ ap (λ n. n ∷ c .before .before .before .before .before .before .before .before .a2 .given .0 .0 .detail ∷ 0 ∷ 0 ∷ c .before .before .before .before .before .before .before .before .a2 .given .0 .0 .progress .components ∷ c .before .before .before .before .before .before .before .before .a2 .given .0 .0 .progress .links ∷ drop 6 (now (c .before .before .before .before .before .before .before .before .before .before .before .args .out))) (c .before .before .before .before .errno-number .ensures)
-    ∙ ap (λ a. answerNumbers a ++ drop 6 (now (c .before .before .before .before .before .before .before .before .before .before .before .args .out))) (sym (c .before .before .before .before .before .before .before .before .a2 .given .1))
+    let args = c .before .before .before .before .before .before .before .before .before .before .before .args in
+    let a2 = c .before .before .before .before .before .before .before .before .a2 in
+    let errno-number = c .before .before .before .before .errno-number in
+    let put62 = c .before .before .put62 in
+    put62 .ensures ∙ ap (λ n. n ∷ a2 .given .0 .0 .detail ∷ 0 ∷ 0 ∷ a2 .given .0 .0 .progress .components ∷ a2 .given .0 .0 .progress .links ∷ drop 6 (now (args .out))) (errno-number .ensures)
+    ∙ ap (λ a. answerNumbers a ++ drop 6 (now (args .out))) (sym (a2 .given .1))
 
 pub put-answer-spec : {M : Type 1} → statement M
 put-answer-spec =

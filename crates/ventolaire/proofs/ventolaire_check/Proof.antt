@@ -11,7 +11,9 @@ use Rattle.ventolaire.proofs.ventolaire_check.Statement.{statement}
 use Rattle.ventolaire.proofs.ventolaire_check.Tie as tie
 
 returns : tie.Need-returns
-returns c = (verdict-short (tableCheck (now (c .before .before .before .args .image))) (now (c .before .before .before .args .out)) (c .if1 .taken), refl)
+returns c =
+    let args = c .before .before .before .args in
+    (verdict-short (tableCheck (now (args .image))) (now (args .out)) (c .if1 .taken), refl)
 
 check-requires : tie.Need-check-requires
 check-requires c κs = search needs
@@ -24,8 +26,12 @@ same-length c = search needs
 
 returns-2 : tie.Need-returns-2
 returns-2 c =
-    let n = tableCheck (now (c .before .before .before .before .before .before .before .before .args .image)) in
-    (verdict-writes n (now (c .before .before .before .before .before .before .before .before .args .out)) (c .before .before .put-verdict .last .0) (c .before .before .before .before .before .if1 .left) (c .before .before .put-verdict .ensures ∙ ap (λ v. verdictNumbers v ++ drop 2 (now (c .before .before .before .before .before .before .before .before .args .out))) (c .before .before .before .check .ensures .0)), refl)
+    let args = c .before .before .before .before .before .before .before .before .args in
+    let if1 = c .before .before .before .before .before .if1 in
+    let check = c .before .before .before .check in
+    let put-verdict = c .before .before .put-verdict in
+    let n = tableCheck (now (args .image)) in
+    (verdict-writes n (now (args .out)) (put-verdict .last .0) (if1 .left) (put-verdict .ensures ∙ ap (λ v. verdictNumbers v ++ drop 2 (now (args .out))) (check .ensures .0)), refl)
 
 pub ventolaire-check-spec : {M : Type 1} → statement M
 ventolaire-check-spec =

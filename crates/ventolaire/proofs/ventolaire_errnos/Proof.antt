@@ -71,10 +71,20 @@ same-length c = simp length-set
 
 returns-2 : tie.Need-returns-2
 returns-2 c =
-    let l = now (c .before .before .before .before .before .before .before .before .before .before .before .args .out) in
-    writes-all errnoNumbers 9 refl l _ (c .before .before .before .before .before .before .before .before .before .if1 .left)
-    (front-9 l (c .before .before .before .before .before .before .before .before .errno-number .result) (c .before .before .before .before .before .before .before .errno-number2 .result) (c .before .before .before .before .before .before .errno-number3 .result) (c .before .before .before .before .before .errno-number4 .result) (c .before .before .before .before .errno-number5 .result) (c .before .before .before .errno-number6 .result) (c .before .before .errno-number7 .result) (c .before .errno-number8 .result) (c .errno-number9 .result) (c .before .before .before .before .before .before .before .before .before .if1 .left)
-    ∙ rw (c .before .before .before .before .before .before .before .before .errno-number .ensures, c .before .before .before .before .before .before .before .errno-number2 .ensures, c .before .before .before .before .before .before .errno-number3 .ensures, c .before .before .before .before .before .errno-number4 .ensures, c .before .before .before .before .errno-number5 .ensures, c .before .before .before .errno-number6 .ensures, c .before .before .errno-number7 .ensures, c .before .errno-number8 .ensures, c .errno-number9 .ensures))
+    let args = c .before .before .before .before .before .before .before .before .before .before .before .args in
+    let errno-number = c .before .before .before .before .before .before .before .before .errno-number in
+    let if1 = c .before .before .before .before .before .before .before .before .before .if1 in
+    let errno-number2 = c .before .before .before .before .before .before .before .errno-number2 in
+    let errno-number3 = c .before .before .before .before .before .before .errno-number3 in
+    let errno-number4 = c .before .before .before .before .before .errno-number4 in
+    let errno-number5 = c .before .before .before .before .errno-number5 in
+    let errno-number6 = c .before .before .before .errno-number6 in
+    let errno-number7 = c .before .before .errno-number7 in
+    let errno-number8 = c .before .errno-number8 in
+    let l = now (args .out) in
+    writes-all errnoNumbers 9 refl l _ (if1 .left)
+    (front-9 l (errno-number .result) (errno-number2 .result) (errno-number3 .result) (errno-number4 .result) (errno-number5 .result) (errno-number6 .result) (errno-number7 .result) (errno-number8 .result) (c .errno-number9 .result) (if1 .left)
+    ∙ rw (errno-number .ensures, errno-number2 .ensures, errno-number3 .ensures, errno-number4 .ensures, errno-number5 .ensures, errno-number6 .ensures, errno-number7 .ensures, errno-number8 .ensures, c .errno-number9 .ensures))
 
 pub ventolaire-errnos-spec : {M : Type 1} → statement M
 ventolaire-errnos-spec =

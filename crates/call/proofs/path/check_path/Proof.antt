@@ -20,7 +20,11 @@ refuse-requires-2 c κs = search needs
 
 returns-2 : tie.Need-returns-2
 unfolding pathRefused
-returns-2 c = rw (le-ltb 4095 (length (now (c .before .before .before .before .args .path))) (c .before .before .if1 .left), eq-eqb (length (now (c .before .before .before .before .args .path))) 0 (c .before .if2 .taken)) (c .refuse2 .ensures)
+returns-2 c =
+    let args = c .before .before .before .before .args in
+    let if1 = c .before .before .if1 in
+    let if2 = c .before .if2 in
+    rw (le-ltb 4095 (length (now (args .path))) (if1 .left), eq-eqb (length (now (args .path))) 0 (if2 .taken)) (c .refuse2 .ensures)
 
 holds-byte-requires : tie.Need-holds-byte-requires
 holds-byte-requires c κs = search needs
@@ -30,11 +34,22 @@ refuse-requires-3 c κs = search needs
 
 returns-3 : tie.Need-returns-3
 unfolding pathRefused
-returns-3 c = rw (le-ltb 4095 (length (now (c .before .before .before .before .before .before .args .path))) (c .before .before .before .before .if1 .left), ne-eqb (length (now (c .before .before .before .before .before .before .args .path))) 0 (c .before .before .before .if2 .left), sym (c .before .before .holds-byte .ensures) ∙ c .before .if3 .taken) (c .refuse3 .ensures)
+returns-3 c =
+    let args = c .before .before .before .before .before .before .args in
+    let if1 = c .before .before .before .before .if1 in
+    let if2 = c .before .before .before .if2 in
+    let holds-byte = c .before .before .holds-byte in
+    let if3 = c .before .if3 in
+    rw (le-ltb 4095 (length (now (args .path))) (if1 .left), ne-eqb (length (now (args .path))) 0 (if2 .left), sym (holds-byte .ensures) ∙ if3 .taken) (c .refuse3 .ensures)
 
 returns-4 : tie.Need-returns-4
 unfolding pathRefused
-returns-4 c = rw (le-ltb 4095 (length (now (c .before .before .before .before .before .args .path))) (c .before .before .before .if1 .left), ne-eqb (length (now (c .before .before .before .before .before .args .path))) 0 (c .before .before .if2 .left), sym (c .before .holds-byte .ensures) ∙ c .if3 .left)
+returns-4 c =
+    let args = c .before .before .before .before .before .args in
+    let if1 = c .before .before .before .if1 in
+    let if2 = c .before .before .if2 in
+    let holds-byte = c .before .holds-byte in
+    rw (le-ltb 4095 (length (now (args .path))) (if1 .left), ne-eqb (length (now (args .path))) 0 (if2 .left), sym (holds-byte .ensures) ∙ c .if3 .left)
 
 pub check-path-spec : {M : Type 1} → statement M
 check-path-spec =

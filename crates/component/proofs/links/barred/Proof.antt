@@ -7,13 +7,17 @@ use Rattle.component.proofs.links.barred.Statement.{statement}
 use Rattle.component.proofs.links.barred.Tie as tie
 
 returns : tie.Need-returns
-returns c = rw (eq-eqb (c .before .args .m) (c .before .args .n) (c .if1 .taken))
+returns c =
+    let args = c .before .args in
+    rw (eq-eqb (args .m) (args .n) (c .if1 .taken))
 
 has-requires : tie.Need-has-requires
 has-requires c κs = omega arith
 
 returns-2 : tie.Need-returns-2
-returns-2 c = c .has .ensures ∙ rw (ne-eqb (c .before .before .args .m) (c .before .before .args .n) (c .before .if1 .left))
+returns-2 c =
+    let args = c .before .before .args in
+    c .has .ensures ∙ rw (ne-eqb (args .m) (args .n) (c .before .if1 .left))
 
 pub barred-spec : {M : Type 1} → statement M
 barred-spec = tie.close (tie.spec returns has-requires returns-2)

@@ -22,14 +22,19 @@ has-requires c κs = omega arith
 
 returns : tie.Need-returns
 returns c =
-    let t = treeOf (now (c .before .before .before .args .image)) in
-    let k = c .before .before .before .args .k in
+    let args = c .before .before .before .args in
+    let has = c .before .has in
+    let t = treeOf (now (args .image)) in
+    let k = args .k in
     let R = restrictionsFor k in
-    let b = not (eqb (c .before .before .before .args .p .mount) (k .root .mount)) in
-    sym (barred-link R 0 (requestFor (now (c .before .before .before .args .image)) k) (c .before .before .before .args .p) (c .before .before .before .args .n) (sym (c .before .has .ensures) ∙ c .if1 .taken))
+    let b = not (eqb (args .p .mount) (k .root .mount)) in
+    sym (barred-link R 0 (requestFor (now (args .image)) k) (args .p) (args .n) (sym (has .ensures) ∙ c .if1 .taken))
 
 body-requires : tie.Need-body-requires
-body-requires c κs = let sound = accepted-sound (now (c .before .before .before .args .image)) (c .before .before .before .pre .0 .reading .accepted) in (c .before .before .before .pre .0 .reading .counted, c .before .before .before .pre .1, symlink-facts (treeOf (now (c .before .before .before .args .image))) (sound .nodes-hold) (c .before .before .before .args .n) (c .before .before .before .pre .1) (c .before .before .before .pre .2) .0)
+body-requires c κs =
+    let args = c .before .before .before .args in
+    let pre = c .before .before .before .pre in
+    let sound = accepted-sound (now (args .image)) (pre .0 .reading .accepted) in (pre .0 .reading .counted, pre .1, symlink-facts (treeOf (now (args .image))) (sound .nodes-hold) (args .n) (pre .1) (pre .2) .0)
 
 is-absolute-requires : tie.Need-is-absolute-requires
 is-absolute-requires c κs = search needs
@@ -37,22 +42,33 @@ is-absolute-requires c κs = search needs
 returns-2 : tie.Need-returns-2
 unfolding symbolicLink forbidAny
 returns-2 c =
-    let t = treeOf (now (c .before .before .before .before .before .before .args .image)) in
-    let k = c .before .before .before .before .before .before .args .k in
+    let args = c .before .before .before .before .before .before .args in
+    let has = c .before .before .before .before .has in
+    let if1 = c .before .before .before .if1 in
+    let body = c .before .before .body in
+    let is-absolute = c .before .is-absolute in
+    let t = treeOf (now (args .image)) in
+    let k = args .k in
     let R = restrictionsFor k in
-    let b = not (eqb (c .before .before .before .before .before .before .args .p .mount) (k .root .mount)) in
-    let ab : absolute (t .body (c .before .before .before .before .before .before .args .n)) ≡ false = ap absolute (sym (c .before .before .body .ensures)) ∙ sym (c .before .is-absolute .ensures) ∙ not-true _ (c .if2 .taken) in
-    rw (ab, link-row R, sym (c .before .before .before .before .has .ensures) ∙ c .before .before .before .if1 .left)
+    let b = not (eqb (args .p .mount) (k .root .mount)) in
+    let ab : absolute (t .body (args .n)) ≡ false = ap absolute (sym (body .ensures)) ∙ sym (is-absolute .ensures) ∙ not-true _ (c .if2 .taken) in
+    rw (ab, link-row R, sym (has .ensures) ∙ if1 .left)
 
 returns-3 : tie.Need-returns-3
 unfolding symbolicLink forbidAny
 returns-3 c =
-    let t = treeOf (now (c .before .before .before .before .before .before .before .args .image)) in
-    let k = c .before .before .before .before .before .before .before .args .k in
+    let args = c .before .before .before .before .before .before .before .args in
+    let has = c .before .before .before .before .before .has in
+    let if1 = c .before .before .before .before .if1 in
+    let body = c .before .before .before .body in
+    let is-absolute = c .before .before .is-absolute in
+    let if2 = c .before .if2 in
+    let t = treeOf (now (args .image)) in
+    let k = args .k in
     let R = restrictionsFor k in
-    let b = not (eqb (c .before .before .before .before .before .before .before .args .p .mount) (k .root .mount)) in
-    let ab : absolute (t .body (c .before .before .before .before .before .before .before .args .n)) ≡ true = ap absolute (sym (c .before .before .before .body .ensures)) ∙ sym (c .before .before .is-absolute .ensures) ∙ not-false _ (c .before .if2 .left) in
-    rw (ab, link-row R, jump-row R b, sym (c .before .before .before .before .before .has .ensures) ∙ c .before .before .before .before .if1 .left, c .if3 .taken)
+    let b = not (eqb (args .p .mount) (k .root .mount)) in
+    let ab : absolute (t .body (args .n)) ≡ true = ap absolute (sym (body .ensures)) ∙ sym (is-absolute .ensures) ∙ not-false _ (if2 .left) in
+    rw (ab, link-row R, jump-row R b, sym (has .ensures) ∙ if1 .left, c .if3 .taken)
 
 has-requires-2 : tie.Need-has-requires-2
 has-requires-2 c κs = omega arith
@@ -60,12 +76,20 @@ has-requires-2 c κs = omega arith
 returns-4 : tie.Need-returns-4
 unfolding symbolicLink forbidAny
 returns-4 c =
-    let t = treeOf (now (c .before .before .before .before .before .before .before .before .before .args .image)) in
-    let k = c .before .before .before .before .before .before .before .before .before .args .k in
+    let args = c .before .before .before .before .before .before .before .before .before .args in
+    let has = c .before .before .before .before .before .before .before .has in
+    let if1 = c .before .before .before .before .before .before .if1 in
+    let body = c .before .before .before .before .before .body in
+    let is-absolute = c .before .before .before .before .is-absolute in
+    let if2 = c .before .before .before .if2 in
+    let if3 = c .before .before .if3 in
+    let has2 = c .before .has2 in
+    let t = treeOf (now (args .image)) in
+    let k = args .k in
     let R = restrictionsFor k in
-    let b = not (eqb (c .before .before .before .before .before .before .before .before .before .args .p .mount) (k .root .mount)) in
-    let ab : absolute (t .body (c .before .before .before .before .before .before .before .before .before .args .n)) ≡ true = ap absolute (sym (c .before .before .before .before .before .body .ensures)) ∙ sym (c .before .before .before .before .is-absolute .ensures) ∙ not-false _ (c .before .before .before .if2 .left) in
-    rw (ab, link-row R, jump-row R b, sym (c .before .before .before .before .before .before .before .has .ensures) ∙ c .before .before .before .before .before .before .if1 .left, c .before .before .if3 .left, sym (c .before .has2 .ensures) ∙ c .if4 .taken)
+    let b = not (eqb (args .p .mount) (k .root .mount)) in
+    let ab : absolute (t .body (args .n)) ≡ true = ap absolute (sym (body .ensures)) ∙ sym (is-absolute .ensures) ∙ not-false _ (if2 .left) in
+    rw (ab, link-row R, jump-row R b, sym (has .ensures) ∙ if1 .left, if3 .left, sym (has2 .ensures) ∙ c .if4 .taken)
 
 barred-requires : tie.Need-barred-requires
 barred-requires c κs = search needs
@@ -73,22 +97,42 @@ barred-requires c κs = search needs
 returns-5 : tie.Need-returns-5
 unfolding symbolicLink forbidAny
 returns-5 c =
-    let t = treeOf (now (c .before .before .before .before .before .before .before .before .before .before .before .before .args .image)) in
-    let k = c .before .before .before .before .before .before .before .before .before .before .before .before .args .k in
+    let args = c .before .before .before .before .before .before .before .before .before .before .before .before .args in
+    let has = c .before .before .before .before .before .before .before .before .before .before .has in
+    let if1 = c .before .before .before .before .before .before .before .before .before .if1 in
+    let body = c .before .before .before .before .before .before .before .before .body in
+    let is-absolute = c .before .before .before .before .before .before .before .is-absolute in
+    let if2 = c .before .before .before .before .before .before .if2 in
+    let if3 = c .before .before .before .before .before .if3 in
+    let has2 = c .before .before .before .before .has2 in
+    let if4 = c .before .before .before .if4 in
+    let barred = c .before .barred in
+    let t = treeOf (now (args .image)) in
+    let k = args .k in
     let R = restrictionsFor k in
-    let b = not (eqb (c .before .before .before .before .before .before .before .before .before .before .before .before .args .p .mount) (k .root .mount)) in
-    let ab : absolute (t .body (c .before .before .before .before .before .before .before .before .before .before .before .before .args .n)) ≡ true = ap absolute (sym (c .before .before .before .before .before .before .before .before .body .ensures)) ∙ sym (c .before .before .before .before .before .before .before .is-absolute .ensures) ∙ not-false _ (c .before .before .before .before .before .before .if2 .left) in
-    rw (ab, link-row R, jump-row R b, sym (c .before .before .before .before .before .before .before .before .before .before .has .ensures) ∙ c .before .before .before .before .before .before .before .before .before .if1 .left, c .before .before .before .before .before .if3 .left, sym (c .before .before .before .before .has2 .ensures) ∙ c .before .before .before .if4 .left, sym (c .before .barred .ensures) ∙ c .if5 .taken)
+    let b = not (eqb (args .p .mount) (k .root .mount)) in
+    let ab : absolute (t .body (args .n)) ≡ true = ap absolute (sym (body .ensures)) ∙ sym (is-absolute .ensures) ∙ not-false _ (if2 .left) in
+    rw (ab, link-row R, jump-row R b, sym (has .ensures) ∙ if1 .left, if3 .left, sym (has2 .ensures) ∙ if4 .left, sym (barred .ensures) ∙ c .if5 .taken)
 
 returns-6 : tie.Need-returns-6
 unfolding symbolicLink forbidAny
 returns-6 c =
-    let t = treeOf (now (c .before .before .before .before .before .before .before .before .before .before .before .before .args .image)) in
-    let k = c .before .before .before .before .before .before .before .before .before .before .before .before .args .k in
+    let args = c .before .before .before .before .before .before .before .before .before .before .before .before .args in
+    let has = c .before .before .before .before .before .before .before .before .before .before .has in
+    let if1 = c .before .before .before .before .before .before .before .before .before .if1 in
+    let body = c .before .before .before .before .before .before .before .before .body in
+    let is-absolute = c .before .before .before .before .before .before .before .is-absolute in
+    let if2 = c .before .before .before .before .before .before .if2 in
+    let if3 = c .before .before .before .before .before .if3 in
+    let has2 = c .before .before .before .before .has2 in
+    let if4 = c .before .before .before .if4 in
+    let barred = c .before .barred in
+    let t = treeOf (now (args .image)) in
+    let k = args .k in
     let R = restrictionsFor k in
-    let b = not (eqb (c .before .before .before .before .before .before .before .before .before .before .before .before .args .p .mount) (k .root .mount)) in
-    let ab : absolute (t .body (c .before .before .before .before .before .before .before .before .before .before .before .before .args .n)) ≡ true = ap absolute (sym (c .before .before .before .before .before .before .before .before .body .ensures)) ∙ sym (c .before .before .before .before .before .before .before .is-absolute .ensures) ∙ not-false _ (c .before .before .before .before .before .before .if2 .left) in
-    rw (ab, link-row R, jump-row R b, sym (c .before .before .before .before .before .before .before .before .before .before .has .ensures) ∙ c .before .before .before .before .before .before .before .before .before .if1 .left, c .before .before .before .before .before .if3 .left, sym (c .before .before .before .before .has2 .ensures) ∙ c .before .before .before .if4 .left, sym (c .before .barred .ensures) ∙ c .if5 .left)
+    let b = not (eqb (args .p .mount) (k .root .mount)) in
+    let ab : absolute (t .body (args .n)) ≡ true = ap absolute (sym (body .ensures)) ∙ sym (is-absolute .ensures) ∙ not-false _ (if2 .left) in
+    rw (ab, link-row R, jump-row R b, sym (has .ensures) ∙ if1 .left, if3 .left, sym (has2 .ensures) ∙ if4 .left, sym (barred .ensures) ∙ c .if5 .left)
 
 pub follow-symbolic-spec : {M : Type 1} → statement M
 follow-symbolic-spec =

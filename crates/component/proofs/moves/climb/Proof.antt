@@ -15,7 +15,9 @@ use Rattle.component.proofs.moves.climb.Statement.{statement}
 use Rattle.component.proofs.moves.climb.Tie as tie
 
 mount-root-requires : tie.Need-mount-root-requires
-mount-root-requires c κs = (c .before .pre .0 .counted, c .before .pre .1)
+mount-root-requires c κs =
+    let pre = c .before .pre in
+    (pre .0 .counted, pre .1)
 
 to-parent-requires : tie.Need-to-parent-requires
 to-parent-requires c κs = search needs
@@ -23,9 +25,12 @@ to-parent-requires c κs = search needs
 returns : tie.Need-returns
 unfolding climb
 returns c =
-    let t = treeOf (now (c .before .before .before .before .before .args .image)) in
-    let p = c .before .before .before .before .before .args .p in
-    c .to-parent .ensures ∙ rw (ne-eqb (p .node) (t .mountRoot (p .mount)) (λ e. c .before .if1 .taken (e ∙ sym (c .before .before .before .mount-root .ensures .0))))
+    let args = c .before .before .before .before .before .args in
+    let mount-root = c .before .before .before .mount-root in
+    let if1 = c .before .if1 in
+    let t = treeOf (now (args .image)) in
+    let p = args .p in
+    c .to-parent .ensures ∙ rw (ne-eqb (p .node) (t .mountRoot (p .mount)) (λ e. if1 .taken (e ∙ sym (mount-root .ensures .0))))
 
 has-requires : tie.Need-has-requires
 has-requires c κs = omega arith
@@ -33,9 +38,13 @@ has-requires c κs = omega arith
 returns-2 : tie.Need-returns-2
 unfolding climb forbidAny forbids row firstSet
 returns-2 c =
-    let t = treeOf (now (c .before .before .before .before .before .before .args .image)) in
-    let p = c .before .before .before .before .before .before .args .p in
-    rw (eq-eqb (p .node) (t .mountRoot (p .mount)) (c .before .before .if1 .left ∙ c .before .before .before .before .mount-root .ensures .0), sym (c .before .has .ensures) ∙ c .if2 .taken)
+    let args = c .before .before .before .before .before .before .args in
+    let mount-root = c .before .before .before .before .mount-root in
+    let if1 = c .before .before .if1 in
+    let has = c .before .has in
+    let t = treeOf (now (args .image)) in
+    let p = args .p in
+    rw (eq-eqb (p .node) (t .mountRoot (p .mount)) (if1 .left ∙ mount-root .ensures .0), sym (has .ensures) ∙ c .if2 .taken)
 
 mount-parent-requires : tie.Need-mount-parent-requires
 mount-parent-requires c κs = search needs
@@ -45,21 +54,31 @@ mount-point-requires c κs = search needs
 
 to-parent-requires-2 : tie.Need-to-parent-requires-2
 to-parent-requires-2 c κs =
-    let t = treeOf (now (c .before .before .before .before .before .before .before .before .args .image)) in
-    let mounts = accepted-sound (now (c .before .before .before .before .before .before .before .before .args .image)) (c .before .before .before .before .before .before .before .before .pre .0 .accepted) .mounts-hold in (
-      c .before .before .before .before .before .before .before .before .pre .0,
-      omega (arith, c .before .mount-parent .ensures .0, mount-parent-below t mounts (c .before .before .before .before .before .before .before .before .args .p .mount) (c .before .before .before .before .before .before .before .before .pre .1)),
-      subst (λ (n : ℕ). isDirectory t n ≡ true) (sym (c .mount-point .ensures .0)) (point-directory t mounts (c .before .before .before .before .before .before .before .before .args .p .mount) (c .before .before .before .before .before .before .before .before .pre .1)),
+    let args = c .before .before .before .before .before .before .before .before .args in
+    let pre = c .before .before .before .before .before .before .before .before .pre in
+    let mount-parent = c .before .mount-parent in
+    let t = treeOf (now (args .image)) in
+    let mounts = accepted-sound (now (args .image)) (pre .0 .accepted) .mounts-hold in (
+      pre .0,
+      omega (arith, mount-parent .ensures .0, mount-parent-below t mounts (args .p .mount) (pre .1)),
+      subst (λ (n : ℕ). isDirectory t n ≡ true) (sym (c .mount-point .ensures .0)) (point-directory t mounts (args .p .mount) (pre .1)),
     )
 
 returns-3 : tie.Need-returns-3
 unfolding climb pointOf forbidAny forbids row firstSet
 returns-3 c =
-    let t = treeOf (now (c .before .before .before .before .before .before .before .before .before .args .image)) in
-    let p = c .before .before .before .before .before .before .before .before .before .args .p in
-    let R = restrictionsBy (c .before .before .before .before .before .before .before .before .before .args .mark) (c .before .before .before .before .before .before .before .before .before .args .resolve) in
-    c .to-parent2 .ensures ∙ ap₂ (λ (m n : ℕ). moveOutcome R (toParent t (placeAt m n))) (c .before .before .mount-parent .ensures .0) (c .before .mount-point .ensures .0)
-    ∙ rw (eq-eqb (p .node) (t .mountRoot (p .mount)) (c .before .before .before .before .before .if1 .left ∙ c .before .before .before .before .before .before .before .mount-root .ensures .0), sym (c .before .before .before .before .has .ensures) ∙ c .before .before .before .if2 .left)
+    let args = c .before .before .before .before .before .before .before .before .before .args in
+    let mount-root = c .before .before .before .before .before .before .before .mount-root in
+    let if1 = c .before .before .before .before .before .if1 in
+    let has = c .before .before .before .before .has in
+    let mount-parent = c .before .before .mount-parent in
+    let if2 = c .before .before .before .if2 in
+    let mount-point = c .before .mount-point in
+    let t = treeOf (now (args .image)) in
+    let p = args .p in
+    let R = restrictionsBy (args .mark) (args .resolve) in
+    c .to-parent2 .ensures ∙ ap₂ (λ (m n : ℕ). moveOutcome R (toParent t (placeAt m n))) (mount-parent .ensures .0) (mount-point .ensures .0)
+    ∙ rw (eq-eqb (p .node) (t .mountRoot (p .mount)) (if1 .left ∙ mount-root .ensures .0), sym (has .ensures) ∙ if2 .left)
 
 pub climb-spec : {M : Type 1} → statement M
 climb-spec =

@@ -25,17 +25,25 @@ has-requires c κs = omega arith
 returns : tie.Need-returns
 unfolding forbidAny forbids row firstSet enter
 returns c =
-    let t = treeOf (now (c .before .before .before .before .before .before .before .args .image)) in
-    let p = c .before .before .before .before .before .before .before .args .p in
-    let m = search-at (mountOn t p) (c .before .before .before .found .given .0 .0) (sym (c .before .before .before .before .before .find-mount .ensures) ∙ c .before .before .before .found .given .1) in
-    rw (m, sym (c .before .has .ensures) ∙ c .if1 .taken)
+    let args = c .before .before .before .before .before .before .before .args in
+    let find-mount = c .before .before .before .before .before .find-mount in
+    let found = c .before .before .before .found in
+    let has = c .before .has in
+    let t = treeOf (now (args .image)) in
+    let p = args .p in
+    let m = search-at (mountOn t p) (found .given .0 .0) (sym (find-mount .ensures) ∙ found .given .1) in
+    rw (m, sym (has .ensures) ∙ c .if1 .taken)
 
 mount-root-requires : tie.Need-mount-root-requires
 mount-root-requires c κs =
-    let t = treeOf (now (c .before .before .before .before .before .before .before .args .image)) in
-    let p = c .before .before .before .before .before .before .before .args .p in
-    let m = search-at (mountOn t p) (c .before .before .before .found .given .0 .0) (sym (c .before .before .before .before .before .find-mount .ensures) ∙ c .before .before .before .found .given .1) in
-    (c .before .before .before .before .before .before .before .pre .0 .counted, mount-on-below t p (c .before .before .before .found .given .0 .0) m .1)
+    let args = c .before .before .before .before .before .before .before .args in
+    let pre = c .before .before .before .before .before .before .before .pre in
+    let find-mount = c .before .before .before .before .before .find-mount in
+    let found = c .before .before .before .found in
+    let t = treeOf (now (args .image)) in
+    let p = args .p in
+    let m = search-at (mountOn t p) (found .given .0 .0) (sym (find-mount .ensures) ∙ found .given .1) in
+    (pre .0 .counted, mount-on-below t p (found .given .0 .0) m .1)
 
 enum-told : tie.Need-enum-told
 enum-told c = search needs
@@ -43,16 +51,23 @@ enum-told c = search needs
 returns-2 : tie.Need-returns-2
 unfolding forbidAny forbids row firstSet enter rootOf
 returns-2 c =
-    let t = treeOf (now (c .before .before .before .before .before .before .before .before .args .image)) in
-    let p = c .before .before .before .before .before .before .before .before .args .p in
-    let m = search-at (mountOn t p) (c .before .before .before .before .found .given .0 .0) (sym (c .before .before .before .before .before .before .find-mount .ensures) ∙ c .before .before .before .before .found .given .1) in
-    rw (m, sym (c .before .before .has .ensures) ∙ c .before .if1 .left) (ap (λ (n : ℕ). Go (placeAt (c .before .before .before .before .found .given .0 .0) n)) (c .mount-root .ensures .0))
+    let args = c .before .before .before .before .before .before .before .before .args in
+    let find-mount = c .before .before .before .before .before .before .find-mount in
+    let found = c .before .before .before .before .found in
+    let has = c .before .before .has in
+    let if1 = c .before .if1 in
+    let t = treeOf (now (args .image)) in
+    let p = args .p in
+    let m = search-at (mountOn t p) (found .given .0 .0) (sym (find-mount .ensures) ∙ found .given .1) in
+    rw (m, sym (has .ensures) ∙ if1 .left) (ap (λ (n : ℕ). Go (placeAt (found .given .0 .0) n)) (c .mount-root .ensures .0))
 
 returns-3 : tie.Need-returns-3
 unfolding forbidAny enter
 returns-3 c =
-    let t = treeOf (now (c .before .before .before .before .args .image)) in
-    let m = search-nowhere (mountOn t (c .before .before .before .before .args .p)) (sym (c .before .before .find-mount .ensures) ∙ c .enum-told .given .1) in
+    let args = c .before .before .before .before .args in
+    let find-mount = c .before .before .find-mount in
+    let t = treeOf (now (args .image)) in
+    let m = search-nowhere (mountOn t (args .p)) (sym (find-mount .ensures) ∙ c .enum-told .given .1) in
     rw m
 
 pub enter-spec : {M : Type 1} → statement M

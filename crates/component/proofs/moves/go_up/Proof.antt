@@ -27,14 +27,25 @@ has-requires c κs = omega arith
 
 returns-3 : tie.Need-returns-3
 unfolding goUp forbidAny forbids row firstSet
-returns-3 c = rw (sym (c .before .before .before .before .same-place .ensures) ∙ not-false _ (c .before .before .before .if1 .left), c .before .before .if2 .left, sym (c .before .has .ensures) ∙ c .if3 .taken)
+returns-3 c =
+    let same-place = c .before .before .before .before .same-place in
+    let if1 = c .before .before .before .if1 in
+    let if2 = c .before .before .if2 in
+    let has = c .before .has in
+    rw (sym (same-place .ensures) ∙ not-false _ (if1 .left), if2 .left, sym (has .ensures) ∙ c .if3 .taken)
 
 up-from-requires-2 : tie.Need-up-from-requires-2
 up-from-requires-2 c κs = search needs
 
 returns-4 : tie.Need-returns-4
 unfolding goUp forbidAny forbids row firstSet
-returns-4 c = c .up-from2 .ensures ∙ rw (sym (c .before .before .before .before .before .same-place .ensures) ∙ not-false _ (c .before .before .before .before .if1 .left), c .before .before .before .if2 .left, sym (c .before .before .has .ensures) ∙ c .before .if3 .left)
+returns-4 c =
+    let same-place = c .before .before .before .before .before .same-place in
+    let if1 = c .before .before .before .before .if1 in
+    let if2 = c .before .before .before .if2 in
+    let has = c .before .before .has in
+    let if3 = c .before .if3 in
+    c .up-from2 .ensures ∙ rw (sym (same-place .ensures) ∙ not-false _ (if1 .left), if2 .left, sym (has .ensures) ∙ if3 .left)
 
 pub go-up-spec : {M : Type 1} → statement M
 go-up-spec =

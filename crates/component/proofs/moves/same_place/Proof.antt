@@ -6,11 +6,16 @@ use Rattle.component.proofs.moves.same_place.Tie as tie
 
 returns : tie.Need-returns
 unfolding samePlace
-returns c = rw (ne-eqb (c .before .before .before .args .p .mount) (c .before .before .before .args .q .mount) (c .if1 .taken))
+returns c =
+    let args = c .before .before .before .args in
+    rw (ne-eqb (args .p .mount) (args .q .mount) (c .if1 .taken))
 
 returns-2 : tie.Need-returns-2
 unfolding samePlace
-returns-2 c = rw (eq-eqb (c .before .before .before .before .before .args .p .mount) (c .before .before .before .before .before .args .q .mount) (c .before .before .if1 .left))
+returns-2 c =
+    let args = c .before .before .before .before .before .args in
+    let if1 = c .before .before .if1 in
+    rw (eq-eqb (args .p .mount) (args .q .mount) (if1 .left))
 
 pub same-place-spec : {M : Type 1} → statement M
 same-place-spec = tie.close (tie.spec returns returns-2)

@@ -11,18 +11,26 @@ use Rattle.component.proofs.moves.to_parent.Statement.{statement}
 use Rattle.component.proofs.moves.to_parent.Tie as tie
 
 node-parent-requires : tie.Need-node-parent-requires
-node-parent-requires c κs = (c .before .pre .0 .counted .sized, directory-below (treeOf (now (c .before .args .image))) (accepted-sound (now (c .before .args .image)) (c .before .pre .0 .accepted) .nodes-hold) (c .before .args .p .node) (c .before .pre .2))
+node-parent-requires c κs =
+    let args = c .before .args in
+    let pre = c .before .pre in
+    (pre .0 .counted .sized, directory-below (treeOf (now (args .image))) (accepted-sound (now (args .image)) (pre .0 .accepted) .nodes-hold) (args .p .node) (pre .2))
 
 enter-requires : tie.Need-enter-requires
 enter-requires c κs =
-    let t = treeOf (now (c .before .before .args .image)) in
-    let nodes = accepted-sound (now (c .before .before .args .image)) (c .before .before .pre .0 .accepted) .nodes-hold in
-    let below = directory-below t nodes (t .parent (c .before .before .args .p .node)) (parent-directory t nodes (c .before .before .args .p .node) (c .before .before .pre .2)) in
-    (c .before .before .pre .0, record { mount-below = c .before .before .pre .1; node-below = omega (arith, c .node-parent .ensures .0, below) })
+    let args = c .before .before .args in
+    let pre = c .before .before .pre in
+    let t = treeOf (now (args .image)) in
+    let nodes = accepted-sound (now (args .image)) (pre .0 .accepted) .nodes-hold in
+    let below = directory-below t nodes (t .parent (args .p .node)) (parent-directory t nodes (args .p .node) (pre .2)) in
+    (pre .0, record { mount-below = pre .1; node-below = omega (arith, c .node-parent .ensures .0, below) })
 
 returns : tie.Need-returns
 unfolding toParent
-returns c = c .enter .ensures ∙ ap (λ (n : ℕ). moveOutcome (restrictionsBy (c .before .before .before .args .mark) (c .before .before .before .args .resolve)) (enter (treeOf (now (c .before .before .before .args .image))) (placeAt (c .before .before .before .args .p .mount) n))) (c .before .node-parent .ensures .0)
+returns c =
+    let args = c .before .before .before .args in
+    let node-parent = c .before .node-parent in
+    c .enter .ensures ∙ ap (λ (n : ℕ). moveOutcome (restrictionsBy (args .mark) (args .resolve)) (enter (treeOf (now (args .image))) (placeAt (args .p .mount) n))) (node-parent .ensures .0)
 
 pub to-parent-spec : {M : Type 1} → statement M
 to-parent-spec = tie.close (tie.spec node-parent-requires enter-requires returns)

@@ -18,7 +18,9 @@ unfolding atTop forbidAny
 returns c = rw (sym (c .before .same-place .ensures) ∙ c .if1 .taken)
 
 mount-root-requires : tie.Need-mount-root-requires
-mount-root-requires c κs = (c .before .before .before .before .pre .0 .reading .counted, c .before .before .before .before .pre .0 .reading .counted .sized .some-mount)
+mount-root-requires c κs =
+    let pre = c .before .before .before .before .pre in
+    (pre .0 .reading .counted, pre .0 .reading .counted .sized .some-mount)
 
 same-place-requires-2 : tie.Need-same-place-requires-2
 same-place-requires-2 c κs = search needs
@@ -26,9 +28,14 @@ same-place-requires-2 c κs = search needs
 returns-2 : tie.Need-returns-2
 unfolding atTop rootOf forbidAny
 returns-2 c =
-    let t = treeOf (now (c .before .before .before .before .before .before .before .args .image)) in
-    let e : samePlace (c .before .before .before .before .before .before .before .args .p) (placeAt 0 (t .mountRoot 0)) ≡ true = ap (λ (n : ℕ). samePlace (c .before .before .before .before .before .before .before .args .p) (placeAt 0 n)) (sym (c .before .before .mount-root .ensures .0)) ∙ sym (c .before .same-place2 .ensures) ∙ c .if2 .taken in
-    rw (sym (c .before .before .before .before .same-place .ensures) ∙ c .before .before .before .if1 .left, e)
+    let args = c .before .before .before .before .before .before .before .args in
+    let same-place = c .before .before .before .before .same-place in
+    let if1 = c .before .before .before .if1 in
+    let mount-root = c .before .before .mount-root in
+    let same-place2 = c .before .same-place2 in
+    let t = treeOf (now (args .image)) in
+    let e : samePlace (args .p) (placeAt 0 (t .mountRoot 0)) ≡ true = ap (λ (n : ℕ). samePlace (args .p) (placeAt 0 n)) (sym (mount-root .ensures .0)) ∙ sym (same-place2 .ensures) ∙ c .if2 .taken in
+    rw (sym (same-place .ensures) ∙ if1 .left, e)
 
 climb-requires : tie.Need-climb-requires
 climb-requires c κs = search needs
@@ -36,9 +43,15 @@ climb-requires c κs = search needs
 returns-3 : tie.Need-returns-3
 unfolding atTop rootOf
 returns-3 c =
-    let t = treeOf (now (c .before .before .before .before .before .before .before .before .args .image)) in
-    let e : samePlace (c .before .before .before .before .before .before .before .before .args .p) (placeAt 0 (t .mountRoot 0)) ≡ false = ap (λ (n : ℕ). samePlace (c .before .before .before .before .before .before .before .before .args .p) (placeAt 0 n)) (sym (c .before .before .before .mount-root .ensures .0)) ∙ sym (c .before .before .same-place2 .ensures) ∙ c .before .if2 .left in
-    c .climb .ensures ∙ rw (sym (c .before .before .before .before .before .same-place .ensures) ∙ c .before .before .before .before .if1 .left, e)
+    let args = c .before .before .before .before .before .before .before .before .args in
+    let same-place = c .before .before .before .before .before .same-place in
+    let if1 = c .before .before .before .before .if1 in
+    let mount-root = c .before .before .before .mount-root in
+    let same-place2 = c .before .before .same-place2 in
+    let if2 = c .before .if2 in
+    let t = treeOf (now (args .image)) in
+    let e : samePlace (args .p) (placeAt 0 (t .mountRoot 0)) ≡ false = ap (λ (n : ℕ). samePlace (args .p) (placeAt 0 n)) (sym (mount-root .ensures .0)) ∙ sym (same-place2 .ensures) ∙ if2 .left in
+    c .climb .ensures ∙ rw (sym (same-place .ensures) ∙ if1 .left, e)
 
 pub up-from-spec : {M : Type 1} → statement M
 up-from-spec =
