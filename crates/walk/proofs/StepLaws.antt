@@ -29,7 +29,7 @@ use Rattle.component.specs.declared.Ask.{Ask}
 use Rattle.component.specs.declared.Outcome.{Outcome}
 use Rattle.component.specs.declared.Outcome.the-variants.{Go}
 use Rattle.image.specs.declared.records.Counts.{Counts}
-use Rattle.walk.specs.Open.{suspended, pending, linksLeft, configuration, Resting, Ready, Leads, OutcomeInside, proceed, Stepped}
+use Rattle.walk.specs.Open.{suspended, pending, linksLeft, configuration, Resting, Ready, Leads, OutcomeInside, proceed, Behind, Stepped}
 use Rattle.walk.specs.declared.Walk.{Walk}
 use Rattle.walk.specs.declared.Next.{Next}
 use Rattle.walk.proofs.WalkLaws.{step-off, step-on}
@@ -153,13 +153,13 @@ module _ {s path stack : List ℕ} {k : Ask} {c : Counts} {w : Walk} (walking : 
       leads-on = o-is ∙ ap₂ (outcomeOf s k w) ends named
 
       -- so the walk can go on from behind it
-      pub proceeds : Walking s c k × Resting s path stack went × OutcomeInside (treeOf s) (went .state .progress .links) o × (last ≡ isEmpty (pending (treeOf s) path stack went))
-      proceeds = (
-        walking,
-        subst (Resting s path stack) (sym went-is) behind-resting,
-        subst₂ (λ v y. OutcomeInside (treeOf s) (v .state .progress .links) y) (sym went-is) (sym leads-on) (leads-inside d (lastAt s path stack w) (nameAt s path w)),
-        ends ∙ ap (λ v. isEmpty (pending (treeOf s) path stack v)) (sym went-is),
-      )
+      pub proceeds : Behind s c k path stack went last o
+      proceeds = record {
+        walking = walking;
+        resting = subst (Resting s path stack) (sym went-is) behind-resting;
+        good = subst₂ (λ v y. OutcomeInside (treeOf s) (v .state .progress .links) y) (sym went-is) (sym leads-on) (leads-inside d (lastAt s path stack w) (nameAt s path w));
+        last-is = ends ∙ ap (λ v. isEmpty (pending (treeOf s) path stack v)) (sym went-is);
+      }
 
       -- and where it goes from there is where the definitions go
       pub stepped : {after : List ℕ} {r : Next} → Leads s path after (proceed s path stack went o) r → Stepped s k path stack w after r

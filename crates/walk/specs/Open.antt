@@ -1,6 +1,6 @@
 -- The open texts of a walk as the code keeps them, and what a walk and the result of its step stand for.
 use Prim.Native.Nat.{ℕ, zero, suc, _+_, _-_, _*_, _/_, _%_, _≤_, _<_}
-use mathlib.Core.Bool.{false, _&&_}
+use mathlib.Core.Bool.{Bool, false, _&&_}
 use mathlib.Core.List.{List, [], _++_}
 use mathlib.Core.Path.{_≡_}
 use lib.ListN.{length, getD}
@@ -14,7 +14,9 @@ use Rattle.theorems.specs.Inside.{Inside}
 use Rattle.theorems.specs.Ordered.{Ordered}
 use Rattle.text.specs.Positions.{Stands, left}
 use Rattle.text.specs.Texts.{textOf, Readable}
+use Rattle.image.specs.declared.records.Counts.{Counts}
 use Rattle.component.specs.Outcomes.{requestFor, restrictionsFor}
+use Rattle.component.specs.Walking.{Walking}
 use Rattle.component.specs.declared.Ask.{Ask}
 use Rattle.component.specs.declared.Outcome.{Outcome}
 use Rattle.component.specs.declared.Outcome.the-variants.{Stop, Go, Target, Read}
@@ -119,6 +121,17 @@ afterOutcome t links cs s (Read n p) = onWith (links - 1) (components n (t .body
 -- the same of a walk that stands behind the component
 abbrev pub proceed : List ℕ → List ℕ → List ℕ → Walk → Outcome → Onward
 proceed s path stack w o = afterOutcome (treeOf s) (linksLeft (w .state)) (pending (treeOf s) path stack w) (w .state) o
+
+-- a walk behind a component that it has taken, with where that leads and whether it was the last
+pub record Behind (s : List ℕ) (c : Counts) (k : Ask) (path stack : List ℕ) (w : Walk) (last : Bool) (o : Outcome) : Type 0 where
+  pub walking : Walking s c k
+  pub resting : Resting s path stack w
+  pub good : OutcomeInside (treeOf s) (w .state .progress .links) o
+  pub last-is : last ≡ isEmpty (pending (treeOf s) path stack w)
+
+-- on from there
+abbrev pub Proceeded : List ℕ → List ℕ → List ℕ → Walk → Outcome → List ℕ → Next → Type 0
+Proceeded s path stack w o after r = Leads s path after (proceed s path stack w o) r × (length after ≡ length stack)
 
 -- a walk that has gone on to the body of a link: the body's components are in front of what was pending
 pub record Entered (s path stack : List ℕ) (w : Walk) (state : State) (n start : ℕ) (after : List ℕ) (r : Walk) : Type 0 where

@@ -24,12 +24,9 @@ ghost use mathlib.Core.Bool.{_&&_};
 ghost use mathlib.Core.Path.{_≡_};
 ghost use lib.Dec.{eqb};
 ghost use Prim.Native.Nat.{ℕ, _≤_, _<_};
-ghost use lib.ListN.{length};
-ghost use Rattle.model.specs.Tree.{treeOf};
-ghost use Rattle.model.specs.Walk.{isEmpty};
 ghost use Rattle.component.specs.Walking.{Walking};
 ghost use Rattle.image.specs.Counts.{Counted};
-ghost use Rattle.walk.specs.Open.{pending, rest, Resting, Ready, Leads, Advanced, OutcomeInside, proceed, Entered, Stepped};
+ghost use Rattle.walk.specs.Open.{rest, Resting, Ready, Advanced, Behind, Proceeded, Entered, Stepped};
 
 // A walk between two components: its state, the text that it reads and where in it, and how many texts are suspended behind that.
 pub struct Walk {
@@ -127,8 +124,8 @@ fn read_body<'a>(
     n: usize,
     p: Place,
 ) -> Next
-    requires { ⌜ Walking (now image) c k × Resting (now image) (now path) (now stack) w × OutcomeInside (treeOf (now image)) (w .state .progress .links) (Outcome.Read n p) × (last ≡ isEmpty (pending (treeOf (now image)) (now path) (now stack) w)) ⌝ }
-    ensures { λ r. ⌜ Leads (now (image .entry)) (now (path .entry)) (now (stack .exit)) (proceed (now (image .entry)) (now (path .entry)) (now (stack .entry)) w (Outcome.Read n p)) r × (length (now (stack .exit)) ≡ length (now (stack .entry))) ⌝ }
+    requires { ⌜ Behind (now image) c k (now path) (now stack) w last (Outcome.Read n p) ⌝ }
+    ensures { λ r. ⌜ Proceeded (now (image .entry)) (now (path .entry)) (now (stack .entry)) w (Outcome.Read n p) (now (stack .exit)) r ⌝ }
 {
     let text = body(image, c, n);
     let slash = both(last, ends_in_slash(text));
@@ -158,8 +155,8 @@ fn proceed<'a>(
     last: bool,
     o: Outcome,
 ) -> Next
-    requires { ⌜ Walking (now image) c k × Resting (now image) (now path) (now stack) w × OutcomeInside (treeOf (now image)) (w .state .progress .links) o × (last ≡ isEmpty (pending (treeOf (now image)) (now path) (now stack) w)) ⌝ }
-    ensures { λ r. ⌜ Leads (now (image .entry)) (now (path .entry)) (now (stack .exit)) (proceed (now (image .entry)) (now (path .entry)) (now (stack .entry)) w o) r × (length (now (stack .exit)) ≡ length (now (stack .entry))) ⌝ }
+    requires { ⌜ Behind (now image) c k (now path) (now stack) w last o ⌝ }
+    ensures { λ r. ⌜ Proceeded (now (image .entry)) (now (path .entry)) (now (stack .entry)) w o (now (stack .exit)) r ⌝ }
 {
     let state = w.state;
     match o {

@@ -27,7 +27,7 @@ advance-requires c κs =
     let o2 = c .before .before .before .o2 in
     let standing-on = c .before .standing-on in
     let R : State → Type 0 = λ st. Resting (now (args .image)) (now (args .path)) (now (args .stack)) (inState (args .w) st) in
-    (pre .0 .reading .counted, subst R (sym (standing-on .ensures)) (went-resting (pre .1) (o2 .given .0 .0)))
+    (pre .walking .reading .counted, subst R (sym (standing-on .ensures)) (went-resting (pre .resting) (o2 .given .0 .0)))
 
 enum-known-o-3 : tie.Need-enum-known-o-3
 enum-known-o-3 c = search needs
@@ -37,7 +37,7 @@ followed-to-requires c κs =
     let args = c .before .before .before .before .before .before .before .args in
     let pre = c .before .before .before .before .before .before .before .pre in
     let o3 = c .before .o3 in
-    subst (OutcomeInside (treeOf (now (args .image))) (args .w .state .progress .links)) (o3 .given .1) (pre .2) .1
+    subst (OutcomeInside (treeOf (now (args .image))) (args .w .state .progress .links)) (o3 .given .1) (pre .good) .1
 
 advance-requires-2 : tie.Need-advance-requires-2
 advance-requires-2 c κs =
@@ -45,9 +45,9 @@ advance-requires-2 c κs =
     let pre = c .before .before .before .before .before .before .before .before .before .pre in
     let o3 = c .before .before .before .o3 in
     let followed-to = c .before .followed-to in
-    let good = subst (OutcomeInside (treeOf (now (args .image))) (args .w .state .progress .links)) (o3 .given .1) (pre .2) in
+    let good = subst (OutcomeInside (treeOf (now (args .image))) (args .w .state .progress .links)) (o3 .given .1) (pre .good) in
     let R : State → Type 0 = λ st. Resting (now (args .image)) (now (args .path)) (now (args .stack)) (inState (args .w) st) in
-    (pre .0 .reading .counted, subst R (sym (followed-to .ensures)) (followed-resting (pre .1) (o3 .given .0 .0) (good .1) false))
+    (pre .walking .reading .counted, subst R (sym (followed-to .ensures)) (followed-resting (pre .resting) (o3 .given .0 .0) (good .1) false))
 
 enum-known-o-4 : tie.Need-enum-known-o-4
 enum-known-o-4 c = search needs
@@ -57,8 +57,8 @@ read-body-requires c κs =
     let args = c .before .before .before .before .before .before .before .before .args in
     let pre = c .before .before .before .before .before .before .before .before .pre in
     let o4 = c .before .before .o4 in
-    let good = subst (OutcomeInside (treeOf (now (args .image))) (args .w .state .progress .links)) (o4 .given .1) (pre .2) in
-    (pre .0, pre .1, good, pre .3)
+    let good = subst (OutcomeInside (treeOf (now (args .image))) (args .w .state .progress .links)) (o4 .given .1) (pre .good) in
+    record { walking = pre .walking; resting = pre .resting; good = good; last-is = pre .last-is }
 
 returns : tie.Need-returns
 unfolding afterOutcome
@@ -77,7 +77,7 @@ returns-2 c =
     let o2 = c .before .before .before .before .o2 in
     let standing-on = c .before .before .standing-on in
     let A : State → Type 0 = λ st. Advanced (now (args .image)) (now (args .path)) (now (args .stack)) (inState (args .w) st) (c .advance .result) in
-    let l = went-leads (pre .1) (o2 .given .0 .0) (subst A (standing-on .ensures) (c .advance .ensures)) in
+    let l = went-leads (pre .resting) (o2 .given .0 .0) (subst A (standing-on .ensures) (c .advance .ensures)) in
     (leads-to l (ap (proceed (now (args .image)) (now (args .path)) (now (args .stack)) (args .w)) (sym (o2 .given .1))), refl)
 
 same-length-2 : tie.Need-same-length-2
@@ -89,9 +89,9 @@ returns-3 c =
     let pre = c .before .before .before .before .before .before .before .before .before .before .pre in
     let o3 = c .before .before .before .before .o3 in
     let followed-to = c .before .before .followed-to in
-    let good = subst (OutcomeInside (treeOf (now (args .image))) (args .w .state .progress .links)) (o3 .given .1) (pre .2) in
+    let good = subst (OutcomeInside (treeOf (now (args .image))) (args .w .state .progress .links)) (o3 .given .1) (pre .good) in
     let A : State → Type 0 = λ st. Advanced (now (args .image)) (now (args .path)) (now (args .stack)) (inState (args .w) st) (c .advance2 .result) in
-    let l = target-leads (pre .1) (o3 .given .0 .0) (good .1) (subst A (followed-to .ensures) (c .advance2 .ensures)) in
+    let l = target-leads (pre .resting) (o3 .given .0 .0) (good .1) (subst A (followed-to .ensures) (c .advance2 .ensures)) in
     (leads-to l (ap (proceed (now (args .image)) (now (args .path)) (now (args .stack)) (args .w)) (sym (o3 .given .1))), refl)
 
 same-length-3 : tie.Need-same-length-3

@@ -22,8 +22,8 @@ body-requires c κs =
     let args = c .before .before .before .args in
     let pre = c .before .before .before .pre in
     let s = now (args .image) in
-    let nodes = accepted-sound s (pre .0 .reading .accepted) .nodes-hold in
-    (pre .0 .reading .counted, pre .2 .2, symlink-facts (treeOf s) nodes (args .n) (pre .2 .2) (pre .2 .3) .0)
+    let nodes = accepted-sound s (pre .walking .reading .accepted) .nodes-hold in
+    (pre .walking .reading .counted, pre .good .2, symlink-facts (treeOf s) nodes (args .n) (pre .good .2) (pre .good .3) .0)
 
 ends-in-slash-requires : tie.Need-ends-in-slash-requires
 ends-in-slash-requires c κs = search needs
@@ -47,9 +47,9 @@ advance-requires c κs =
     let followed-to = c .before .before .followed-to in
     let s = now (args .image) in
     let slash = slashOf s (now (args .path)) (now (args .stack)) (args .w) (args .n) in
-    let ends = both .ensures ∙ ap₂ _&&_ (pre .3) (ends-in-slash .ensures ∙ ap endsInSlash (body .ensures)) in
+    let ends = both .ensures ∙ ap₂ _&&_ (pre .last-is) (ends-in-slash .ensures ∙ ap endsInSlash (body .ensures)) in
     let E : followed-to .result ≡ followedTo (args .p) slash (args .w .state) = followed-to .ensures ∙ ap (λ b. followedTo (args .p) b (args .w .state)) ends in
-    (pre .0 .reading .counted, subst (λ st. Resting s (now (args .path)) (now (args .stack)) (inState (args .w) st)) (sym E) (followed-resting (pre .1) (args .p) (pre .2 .1) slash))
+    (pre .walking .reading .counted, subst (λ st. Resting s (now (args .path)) (now (args .stack)) (inState (args .w) st)) (sym E) (followed-resting (pre .resting) (args .p) (pre .good .1) slash))
 
 same-length : tie.Need-same-length
 same-length c = search needs
@@ -69,11 +69,11 @@ returns c =
     let stack = now (args .stack) in
     let x = now (body .result) in
     let slash = slashOf s path stack (args .w) (args .n) in
-    let ends = both .ensures ∙ ap₂ _&&_ (pre .3) (ends-in-slash .ensures ∙ ap endsInSlash (body .ensures)) in
+    let ends = both .ensures ∙ ap₂ _&&_ (pre .last-is) (ends-in-slash .ensures ∙ ap endsInSlash (body .ensures)) in
     let E : followed-to .result ≡ followedTo (args .p) slash (args .w .state) = followed-to .ensures ∙ ap (λ b. followedTo (args .p) b (args .w .state)) ends in
     let q : slashes x ≡ length x = sym (skip-slashes .ensures ∙ start-past x) ∙ if1 .taken in
     let q′ = subst (λ y. slashes y ≡ length y) (body .ensures) q in
-    (read-behind (pre .0) (pre .1) (pre .2) q′ (subst (λ st. Advanced s path stack (inState (args .w) st) (c .advance .result)) E (c .advance .ensures)), refl)
+    (read-behind (pre .walking) (pre .resting) (pre .good) q′ (subst (λ st. Advanced s path stack (inState (args .w) st) (c .advance .result)) E (c .advance .ensures)), refl)
 
 enter-body-requires : tie.Need-enter-body-requires
 enter-body-requires c κs = search needs
@@ -98,7 +98,7 @@ returns-2 c =
     let n = args .n in
     let x = now (body .result) in
     let slash = slashOf s path stack (args .w) n in
-    let ends = both .ensures ∙ ap₂ _&&_ (pre .3) (ends-in-slash .ensures ∙ ap endsInSlash (body .ensures)) in
+    let ends = both .ensures ∙ ap₂ _&&_ (pre .last-is) (ends-in-slash .ensures ∙ ap endsInSlash (body .ensures)) in
     let E : followed-to .result ≡ followedTo (args .p) slash (args .w .state) = followed-to .ensures ∙ ap (λ b. followedTo (args .p) b (args .w .state)) ends in
     let start : skip-slashes .result ≡ slashes x = skip-slashes .ensures ∙ start-past x in
     let q : skip-slashes .result ≡ slashes (treeOf s .body n) = start ∙ ap slashes (body .ensures) in
@@ -107,7 +107,7 @@ returns-2 c =
     let after = enter-body .last .1 .1 .1 .0 in
     let e = subst (λ st. Entered s path stack (args .w) st n (skip-slashes .result) after (enter-body .result)) E (enter-body .ensures) in
     let e′ = subst (λ m. Entered s path stack (args .w) (followedTo (args .p) slash (args .w .state)) n m after (enter-body .result)) q e in
-    (read-entered (pre .0) (pre .1) (pre .2) after (enter-body .result) h e′, e′ .same-length)
+    (read-entered (pre .walking) (pre .resting) (pre .good) after (enter-body .result) h e′, e′ .same-length)
 
 pub read-body-spec : {M : Type 1} → statement M
 read-body-spec =
