@@ -1,8 +1,8 @@
 //! How the cost of one call grows with its input, one measure of it at a time.
 
 use crate::measure::Measured;
-use crate::optional;
 use crate::tables::{accepted, found, Input, Tree};
+use crate::{grouped, optional, row};
 use std::error::Error;
 
 pub struct Growth {
@@ -90,44 +90,37 @@ pub struct Point {
     pub proved: Option<f64>,
 }
 
-/// Measures all growths and prints each as a table of instructions per call.
+/// Measures all growths and prints a row for each, of instructions per call: the
+/// proved ones, if there are any, with the ratio to plain and, in table checks,
+/// to linear.
 pub fn measure() -> Result<Vec<Series>, Box<dyn Error>> {
+    row("what grows", &["size: instructions (ratio, ratio to linear)"]);
+    row("---", &["---"]);
     let mut measured = Vec::new();
     for growth in GROWTHS {
-        if !measured.is_empty() {
-            println!();
-        }
-        println!("{}: {}", growth.name, growth.about);
-        println!("{:>8} {:>14} {:>14} {:>8}", "size", "plain instr", "proved instr", "ratio");
         let mut points = Vec::new();
+        let mut cells = Vec::new();
         for &size in growth.sizes {
             let case = format!("{}:{size}", growth.name);
-            let costs = Measured::new(&case, (growth.build)(size))?.costs()?;
-            let plain = costs[0].instructions;
-            let proved = costs.get(1).map(|cost| cost.instructions);
-            let ratio = proved.map(|proved| proved / plain);
-            println!(
-                "{size:>8} {plain:>14.0} {:>14} {:>8}",
-                optional(proved, 0),
-                optional(ratio, 3)
-            );
-            points.push(Point { size, plain, proved });
+            let sides = Measured::new(&case, (growth.build)(size))?.instructions()?;
+            let ratios = [sides.to_plain(), sides.to_linear()].map(|ratio| optional(ratio, 3));
+            let [to_plain, to_linear] = ratios;
+            let ratios = match (sides.proved, sides.linear) {
+                (None, _) => String::new(),
+                (Some(_), None) => format!(" ({to_plain})"),
+                (Some(_), Some(_)) => format!(" ({to_plain}, {to_linear})"),
+            };
+            cells.push(format!("{size}: {}{ratios}", grouped(sides.proved.unwrap_or(sides.plain))));
+            points.push(Point { size, plain: sides.plain, proved: sides.proved });
         }
+        row(&format!("{}: {}", growth.name, growth.about), &[cells.join("; ")]);
         measured.push(Series { name: growth.name, points });
     }
     Ok(measured)
 }
 
-/// A tree with its top and mount 0.
-fn tree() -> (Tree, u16) {
-    let mut tree = Tree::default();
-    let top = tree.top();
-    tree.mount(top, 0, top);
-    (tree, top)
-}
-
 fn chain(size: usize) -> Tree {
-    let (mut tree, top) = tree();
+    let (mut tree, top) = Tree::mounted();
     let name = tree.text(b"d");
     tree.chain(top, name, size, size);
     tree
@@ -136,7 +129,7 @@ fn chain(size: usize) -> Tree {
 /// One directory of files. The files are few and shared: it is the names that
 /// grow.
 fn directory(size: usize) -> Tree {
-    let (mut tree, top) = tree();
+    let (mut tree, top) = Tree::mounted();
     let file = tree.file();
     for i in 0..size {
         tree.name(top, &format!("{i:04}"), file);
@@ -145,7 +138,7 @@ fn directory(size: usize) -> Tree {
 }
 
 fn mounts(size: usize) -> Tree {
-    let (mut tree, top) = tree();
+    let (mut tree, top) = Tree::mounted();
     for i in 0..size {
         let point = tree.named_directory(top, &format!("{i:03}"));
         let root = tree.top();
@@ -169,7 +162,7 @@ fn walk_mounts(size: usize) -> Input {
 }
 
 fn walk_links(size: usize) -> Input {
-    let (mut tree, top) = tree();
+    let (mut tree, top) = Tree::mounted();
     tree.named_symlink(top, "l", ".");
     let file = tree.named_file(top, "f");
     let links = size as u64;
@@ -190,7 +183,7 @@ fn check_mounts(size: usize) -> Input {
 }
 
 fn check_links(size: usize) -> Input {
-    let (mut tree, _) = tree();
+    let (mut tree, _) = Tree::mounted();
     for i in 0..size {
         let body = tree.text(format!("body{i:04}").as_bytes());
         tree.symlink(body);
@@ -199,7 +192,7 @@ fn check_links(size: usize) -> Input {
 }
 
 fn check_magic_links(size: usize) -> Input {
-    let (mut tree, top) = tree();
+    let (mut tree, top) = Tree::mounted();
     let directories: Vec<u16> = (0..100).map(|_| tree.directory(top)).collect();
     for i in 0..size {
         tree.magic_link(0, directories[i % directories.len()]);

@@ -1,13 +1,19 @@
-//! Measures Ventolaire's proved table check and resolver against a plain Rust
-//! version of the same rules.
+//! Measures Ventolaire's proved table check and resolver against plain Rust
+//! versions of the same rules.
 //!
 //! ```text
-//! bench list                            the cases
-//! bench table                           all cases: instructions and time per call
-//! bench growth                          how instructions per call grow with the input
-//! bench all FILE                        both, and a chart of both in FILE, as SVG
-//! bench run CASE plain|proved CALLS     one case, that many times
+//! bench list            the cases
+//! bench table           all cases: instructions and time per call
+//! bench growth          how instructions per call grow with the input
+//! bench sweep           instructions per call by the length of names and bodies
+//! bench all FILE        all three, and a chart of the first two in FILE, as SVG
+//! bench run CASE plain|linear|proved CALLS
+//!                       one case, that many times
 //! ```
+//!
+//! There are two baselines: `plain`, the rules written straight down, and
+//! `linear`, for the table check alone, which takes time linear in the image even
+//! if the image is hostile.
 //!
 //! The proved side takes part if the crate is built with the feature `proved`
 //! and the variable `VENTOLAIRE_LIB` names the folder of `libventolaire.a`:
@@ -17,32 +23,38 @@
 //! ```
 //!
 //! `bench/run` proves and builds the library and does `bench all` with
-//! docs/speed.svg.
+//! docs/speed.svg. What is printed is Markdown.
 //!
 //! Instructions are counted with valgrind's callgrind. A table check is measured
 //! as it is. A walk is measured without the table check before it: the table is
 //! checked once in each run, and the difference of two runs is the walks alone,
 //! each a call of a C function on either side.
 
+#[cfg(test)]
+mod agree;
 mod chart;
 mod growth;
+mod hostile;
+mod linear;
 mod measure;
 mod plain;
 #[cfg(feature = "proved")]
 mod proved;
 mod side;
+mod sweep;
 mod tables;
 #[cfg(test)]
 mod tests;
 mod walk;
 
-use measure::{Cost, Measured};
+use measure::Measured;
 use side::Side;
 use std::error::Error;
 use std::process::ExitCode;
-use tables::CASES;
+use tables::cases;
 
-const USAGE: &str = "usage: bench list | table | growth | all FILE | run CASE plain|proved CALLS";
+const USAGE: &str = "usage: bench list | table | growth | sweep | all FILE \
+    | run CASE plain|linear|proved CALLS";
 
 fn main() -> ExitCode {
     let args: Vec<String> = std::env::args().skip(1).collect();
@@ -54,6 +66,7 @@ fn main() -> ExitCode {
         }
         ["table"] => table().map(drop),
         ["growth"] => growth::measure().map(drop),
+        ["sweep"] => sweep::measure(),
         ["all", file] => all(file),
         ["run", case, side, calls] => run(case, side, calls),
         _ => Err(USAGE.into()),
@@ -68,76 +81,89 @@ fn main() -> ExitCode {
 }
 
 fn list() {
-    for case in CASES {
-        println!("{:22} {}", case.name, case.about);
+    for case in cases() {
+        println!("{:24} {}", case.name, case.about);
     }
     for growth in growth::GROWTHS {
         let sizes: Vec<String> = growth.sizes.iter().map(usize::to_string).collect();
-        println!("{:22} {}", format!("{}:SIZE", growth.name), growth.about);
-        println!("{:22} SIZE one of {}", "", sizes.join(", "));
+        println!("{:24} {}", format!("{}:SIZE", growth.name), growth.about);
+        println!("{:24} SIZE one of {}", "", sizes.join(", "));
+    }
+    for sweep in sweep::SWEEPS {
+        let (first, last) = (sweep::LENGTHS.start(), sweep::LENGTHS.end());
+        println!("{:24} {}", format!("{}:LENGTH", sweep.name), sweep.about);
+        println!("{:24} LENGTH from {first} to {last}", "");
     }
 }
 
 /// One case, by the name that `bench list` gives it. Prints the sum of the
 /// answers, so that none of the calls can be left out.
 fn run(case: &str, side: &str, calls: &str) -> Result<(), Box<dyn Error>> {
-    let known = CASES.iter().find(|known| known.name == case);
-    let input = match known {
-        Some(known) => Some((known.build)()),
-        None => growth::input(case),
-    };
+    let input = tables::input(case).or_else(|| growth::input(case)).or_else(|| sweep::input(case));
     let input = input.ok_or_else(|| format!("no case {case}; `bench list` names them"))?;
-    let side = Side::ALL
-        .iter()
-        .find(|known| known.name() == side)
-        .ok_or_else(|| format!("no side {side} in this build"))?;
+    let side = Side::named(side).ok_or_else(|| format!("no side {side} in this build"))?;
     let calls = calls.parse().map_err(|_| format!("{calls} is no number of calls"))?;
     println!("{}", side.run(&input, calls));
     Ok(())
 }
 
-/// Both tables, and a chart of both.
+/// All tables, and a chart of the first two.
 fn all(file: &str) -> Result<(), Box<dyn Error>> {
-    if Side::ALL.len() < 2 {
-        return Err("a chart needs both sides: build with the feature `proved`".into());
+    if Side::PROVED.is_none() {
+        return Err("a chart needs the proved side: build with the feature `proved`".into());
     }
     let ratios = table()?;
     println!();
     let series = growth::measure()?;
     let chart = chart::draw(&ratios, geometric_mean(&ratios), &series);
-    std::fs::write(file, chart).map_err(|error| format!("cannot write {file}: {error}").into())
+    std::fs::write(file, chart).map_err(|error| format!("cannot write {file}: {error}"))?;
+    println!();
+    sweep::measure()
 }
 
-/// Measures all cases and prints them as a table; the ratios, if there are two
-/// sides.
+/// Measures all cases and prints them as a table; the ratios of proved to plain.
 fn table() -> Result<Vec<(&'static str, f64)>, Box<dyn Error>> {
-    println!(
-        "{:20} {:>12} {:>12} {:>7} {:>12} {:>12}",
-        "case", "plain instr", "proved instr", "ratio", "plain ns", "proved ns"
-    );
-    let mut ratios = Vec::new();
-    for case in CASES {
-        let measured = Measured::new(case.name, (case.build)())?;
-        let costs = measured.costs()?;
-        let plain = &costs[0];
-        let proved = costs.get(1);
-        let ratio = proved.map(|proved| proved.instructions / plain.instructions);
-        ratios.extend(ratio.map(|ratio| (case.name, ratio)));
-        let proved = |number: fn(&Cost) -> f64| optional(proved.map(number), 0);
-        println!(
-            "{:20} {:>12.0} {:>12} {:>7} {:>12.0} {:>12}",
-            case.name,
-            plain.instructions,
-            proved(|cost| cost.instructions),
-            optional(ratio, 3),
-            plain.nanoseconds,
-            proved(|cost| cost.nanoseconds),
-        );
+    let heads = ["plain", "linear", "proved", "ratio", "to linear", "plain ns", "proved ns"];
+    row("case", &heads);
+    row("---", &["---:"; 7]);
+    let mut to_plain = Vec::new();
+    let mut to_linear = Vec::new();
+    for case in cases() {
+        let costs = Measured::new(case.name, (case.build)())?.costs()?;
+        let instructions = costs.map(|cost| cost.instructions);
+        let nanoseconds = costs.map(|cost| cost.nanoseconds);
+        to_plain.extend(instructions.to_plain().map(|ratio| (case.name, ratio)));
+        to_linear.extend(instructions.to_linear().map(|ratio| (case.name, ratio)));
+        let cells = [
+            grouped(instructions.plain),
+            instructions.linear.map_or("-".into(), grouped),
+            instructions.proved.map_or("-".into(), grouped),
+            optional(instructions.to_plain(), 3),
+            optional(instructions.to_linear(), 3),
+            grouped(nanoseconds.plain),
+            nanoseconds.proved.map_or("-".into(), grouped),
+        ];
+        row(&format!("{}: {}", case.name, case.about), &cells);
     }
-    if !ratios.is_empty() {
-        println!("geometric mean of the ratios: {:.3}", geometric_mean(&ratios));
+    if !to_plain.is_empty() {
+        println!();
+        means("plain", &to_plain);
+        means("linear", &to_linear);
     }
-    Ok(ratios)
+    Ok(to_plain)
+}
+
+/// Prints the geometric means of the ratios to a baseline, by kinds of cases.
+fn means(baseline: &str, ratios: &[(&str, f64)]) {
+    let mean = |kind: &str| {
+        let ratios = ratios.iter().filter(|(name, _)| name.starts_with(kind));
+        let ratios: Vec<(&str, f64)> = ratios.copied().collect();
+        let of = if kind.is_empty() { "all" } else { kind };
+        (!ratios.is_empty()).then(|| format!("{of} {:.2}", geometric_mean(&ratios)))
+    };
+    let means: Vec<String> =
+        ["check", "hostile", "walk", ""].into_iter().filter_map(mean).collect();
+    println!("Geometric means of the ratios to {baseline}: {}.", means.join(", "));
 }
 
 fn geometric_mean(ratios: &[(&str, f64)]) -> f64 {
@@ -145,6 +171,25 @@ fn geometric_mean(ratios: &[(&str, f64)]) -> f64 {
     (logs / ratios.len() as f64).exp()
 }
 
+/// Prints a row of a table.
+fn row(first: &str, cells: &[impl AsRef<str>]) {
+    let cells: Vec<&str> = cells.iter().map(AsRef::as_ref).collect();
+    println!("| {first} | {} |", cells.join(" | "));
+}
+
 fn optional(number: Option<f64>, decimals: usize) -> String {
     number.map_or("-".into(), |number| format!("{number:.decimals$}"))
+}
+
+/// A whole number, its digits in groups of three.
+fn grouped(number: f64) -> String {
+    let digits = format!("{number:.0}");
+    let mut grouped = String::new();
+    for (i, digit) in digits.chars().enumerate() {
+        if i > 0 && (digits.len() - i) % 3 == 0 {
+            grouped.push(',');
+        }
+        grouped.push(digit);
+    }
+    grouped
 }

@@ -1,7 +1,7 @@
 //! What one call costs.
 
 use crate::side::Side;
-use crate::tables::Input;
+use crate::tables::{Call, Input};
 use std::error::Error;
 use std::hint::black_box;
 use std::process::Command;
@@ -12,6 +12,36 @@ pub struct Cost {
     pub nanoseconds: f64,
 }
 
+/// A figure for each side that takes part: the linear one in table checks alone,
+/// the proved one in builds that have it.
+pub struct Sides<T> {
+    pub plain: T,
+    pub linear: Option<T>,
+    pub proved: Option<T>,
+}
+
+impl<T> Sides<T> {
+    pub fn map<U>(&self, figure: impl Fn(&T) -> U) -> Sides<U> {
+        Sides {
+            plain: figure(&self.plain),
+            linear: self.linear.as_ref().map(&figure),
+            proved: self.proved.as_ref().map(&figure),
+        }
+    }
+}
+
+impl Sides<f64> {
+    /// Proved over plain.
+    pub fn to_plain(&self) -> Option<f64> {
+        Some(self.proved? / self.plain)
+    }
+
+    /// Proved over linear.
+    pub fn to_linear(&self) -> Option<f64> {
+        Some(self.proved? / self.linear?)
+    }
+}
+
 /// A case whose answers are right on every side.
 pub struct Measured<'a> {
     name: &'a str,
@@ -20,26 +50,50 @@ pub struct Measured<'a> {
 
 impl<'a> Measured<'a> {
     pub fn new(name: &'a str, input: Input) -> Result<Self, Box<dyn Error>> {
-        for &side in Side::ALL {
-            for answer in side.answers(&input) {
-                let (side, expected) = (side.name(), input.expected);
-                if answer != expected {
-                    let message = format!("{name}: {side} answers {answer:?}, not {expected:?}");
-                    return Err(message.into());
+        let measured = Measured { name, input };
+        measured.each(|side| {
+            let expected = measured.input.expected;
+            match side.answers(&measured.input).into_iter().find(|&answer| answer != expected) {
+                Some(answer) => {
+                    let side = side.name();
+                    Err(format!("{name}: {side} answers {answer:?}, not {expected:?}").into())
                 }
+                None => Ok(()),
             }
-        }
-        Ok(Measured { name, input })
+        })?;
+        Ok(measured)
+    }
+
+    pub fn is_check(&self) -> bool {
+        matches!(self.input.call, Call::Check)
+    }
+
+    /// A figure for each side that takes part.
+    fn each<T>(
+        &self,
+        figure: impl Fn(Side) -> Result<T, Box<dyn Error>>,
+    ) -> Result<Sides<T>, Box<dyn Error>> {
+        let linear = self.is_check().then_some(Side::Linear);
+        Ok(Sides {
+            plain: figure(Side::Plain)?,
+            linear: linear.map(&figure).transpose()?,
+            proved: Side::PROVED.map(&figure).transpose()?,
+        })
     }
 
     /// The cost on each side.
-    pub fn costs(&self) -> Result<Vec<Cost>, Box<dyn Error>> {
-        let cost = |&side| {
+    pub fn costs(&self) -> Result<Sides<Cost>, Box<dyn Error>> {
+        self.each(|side| {
             let nanoseconds = self.time(side);
-            let instructions = self.instructions(side, nanoseconds)?;
-            Ok(Cost { instructions, nanoseconds })
-        };
-        Side::ALL.iter().map(cost).collect()
+            // As many calls as take about a millisecond outside valgrind.
+            let calls = (1e6 / nanoseconds).clamp(4.0, 1_000.0) as u64;
+            Ok(Cost { instructions: self.instructions_of(side, calls)?, nanoseconds })
+        })
+    }
+
+    /// The instructions on each side, without the time, and thus sooner.
+    pub fn instructions(&self) -> Result<Sides<f64>, Box<dyn Error>> {
+        self.each(|side| self.instructions_of(side, 50))
     }
 
     /// The difference between one call and many, each the best of five, so that
@@ -60,9 +114,7 @@ impl<'a> Measured<'a> {
     }
 
     /// The difference of two runs under callgrind, for the same reason.
-    fn instructions(&self, side: Side, nanoseconds: f64) -> Result<f64, Box<dyn Error>> {
-        // As many calls as take about a millisecond outside valgrind.
-        let more = (1e6 / nanoseconds).clamp(4.0, 1_000.0) as u64;
+    fn instructions_of(&self, side: Side, more: u64) -> Result<f64, Box<dyn Error>> {
         let few = self.collected(side, 1)?;
         let many = self.collected(side, 1 + more)?;
         let each = (many as f64 - few as f64) / more as f64;

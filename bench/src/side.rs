@@ -1,5 +1,6 @@
-//! The two sides that are measured.
+//! The sides that are measured.
 
+use crate::linear;
 use crate::plain::{self, Broken, Found, Handle, Refusal};
 #[cfg(feature = "proved")]
 use crate::proved;
@@ -10,20 +11,28 @@ use std::hint::black_box;
 #[derive(Clone, Copy)]
 pub enum Side {
     Plain,
+    /// The plain side with a check that is linear in the image.
+    Linear,
     #[cfg(feature = "proved")]
     Proved,
 }
 
 impl Side {
-    pub const ALL: &[Side] = &[
-        Side::Plain,
-        #[cfg(feature = "proved")]
-        Side::Proved,
-    ];
+    #[cfg(feature = "proved")]
+    pub const PROVED: Option<Side> = Some(Side::Proved);
+    #[cfg(not(feature = "proved"))]
+    pub const PROVED: Option<Side> = None;
+
+    /// The side of that name, if this build has it.
+    pub fn named(name: &str) -> Option<Side> {
+        let sides = [Some(Side::Plain), Some(Side::Linear), Side::PROVED];
+        sides.into_iter().flatten().find(|side| side.name() == name)
+    }
 
     pub fn name(self) -> &'static str {
         match self {
             Side::Plain => "plain",
+            Side::Linear => "linear",
             #[cfg(feature = "proved")]
             Side::Proved => "proved",
         }
@@ -36,7 +45,10 @@ impl Side {
         let image = input.image.as_slice();
         match (self, &input.call) {
             (Side::Plain, Call::Check) => repeat(calls, || checked(plain::check(black_box(image)))),
-            (Side::Plain, Call::Resolve { handle, path, how }) => {
+            (Side::Linear, Call::Check) => {
+                repeat(calls, || checked(linear::check(black_box(image))))
+            }
+            (Side::Plain | Side::Linear, Call::Resolve { handle, path, how }) => {
                 walks(calls, &Accepted::plain(image), *handle, path, how)
             }
             #[cfg(feature = "proved")]
@@ -55,7 +67,8 @@ impl Side {
         let image = input.image.as_slice();
         match (self, &input.call) {
             (Side::Plain, Call::Check) => vec![checked(plain::check(image))],
-            (Side::Plain, &Call::Resolve { handle, ref path, ref how }) => vec![
+            (Side::Linear, Call::Check) => vec![checked(linear::check(image))],
+            (Side::Plain | Side::Linear, &Call::Resolve { handle, ref path, ref how }) => vec![
                 resolved(plain::resolve(image, handle, path, how)),
                 Accepted::plain(image).resolve(handle, path, how),
             ],

@@ -1,6 +1,7 @@
 //! The inputs: a builder of table images, the trees built with it, and the
 //! cases that are measured over them.
 
+use crate::hostile;
 use crate::plain::Handle;
 
 /// A tree with its mounts, to be written as an image.
@@ -23,10 +24,26 @@ enum Node {
 #[derive(Clone, Copy)]
 pub struct Text {
     at: usize,
-    len: usize,
+    pub len: usize,
+}
+
+impl Text {
+    /// `len` bytes of it from `at`.
+    pub fn part(self, at: usize, len: usize) -> Text {
+        assert!(at + len <= self.len, "a part lies inside");
+        Text { at: self.at + at, len }
+    }
 }
 
 impl Tree {
+    /// A tree with its top and mount 0.
+    pub fn mounted() -> (Self, u16) {
+        let mut tree = Tree::default();
+        let top = tree.top();
+        tree.mount(top, 0, top);
+        (tree, top)
+    }
+
     pub fn text(&mut self, bytes: &[u8]) -> Text {
         let at = self.text.len();
         self.text.extend_from_slice(bytes);
@@ -216,7 +233,7 @@ pub struct Case {
     pub build: fn() -> Input,
 }
 
-pub const CASES: &[Case] = &[
+const CASES: &[Case] = &[
     Case { name: "check-bench", about: "the bench tree", build: || accepted(bench_tree()) },
     Case {
         name: "check-entries",
@@ -305,6 +322,16 @@ pub const CASES: &[Case] = &[
     },
 ];
 
+/// All cases: the common ones, and then the hostile tables.
+pub fn cases() -> impl Iterator<Item = &'static Case> {
+    CASES.iter().chain(hostile::CASES)
+}
+
+/// The input of the case of that name.
+pub fn input(name: &str) -> Option<Input> {
+    cases().find(|case| case.name == name).map(|case| (case.build)())
+}
+
 /// The handle of the bench tree's calls.
 const LAB: u64 = 1;
 
@@ -334,7 +361,7 @@ pub fn found(
 }
 
 /// Letters that look random and are the same on every run.
-fn letters(len: usize) -> Vec<u8> {
+pub fn letters(len: usize) -> Vec<u8> {
     let mut state = 1_u32;
     let next = || {
         state = state.wrapping_mul(1_664_525).wrapping_add(1_013_904_223);

@@ -1,12 +1,15 @@
-//! The rules tried on the plain side: document 01's own table and limits, each
-//! table rule broken, and the answers that the measured cases expect.
+//! The rules tried on the plain side, and the linear check beside it: document
+//! 01's own table and limits, each table rule broken, and the answers that the
+//! measured cases expect.
 
 use crate::chart;
 use crate::growth::{self, GROWTHS};
 use crate::measure::Measured;
 use crate::plain::{self, *};
 use crate::side::{checked, resolved};
-use crate::tables::{bench_tree, how, Call, Numbers, Tree, CASES};
+use crate::sweep::{self, LENGTHS, SWEEPS};
+use crate::tables::{bench_tree, cases, how, Call, Numbers, Tree};
+use crate::{grouped, linear};
 
 const EINVAL: u64 = 22;
 const E2BIG: u64 = 7;
@@ -20,6 +23,12 @@ const EUCLEAN: u64 = 117;
 
 const LAB: Handle = Handle { mount: 0, node: 1, mark: false };
 const MARKED_LAB: Handle = Handle { mark: true, ..LAB };
+
+fn check(image: &[u8]) -> Result<(), Broken> {
+    let verdict = plain::check(image);
+    assert_eq!(linear::check(image), verdict);
+    verdict
+}
 
 fn resolve(image: &[u8], handle: Handle, path: &[u8], flags: u64, restrictions: u64) -> Numbers {
     resolved(plain::resolve(image, handle, path, &how(flags, restrictions)))
@@ -416,14 +425,34 @@ fn the_lowest_astray_magic_link_is_named() {
 
 #[test]
 fn cases_answer_as_expected() {
-    for case in CASES {
+    // What these are about takes no more than they have.
+    let small = ["check-bench", "hostile-one-point-alone", "hostile-magic", "hostile-magic-outer"];
+    for case in cases() {
         let input = (case.build)();
         let is_full = 60_000..=65_536;
-        if matches!(input.call, Call::Check) && case.name != "check-bench" {
+        if matches!(input.call, Call::Check) && !small.contains(&case.name) {
             assert!(is_full.contains(&input.image.len()), "{}: {}", case.name, input.image.len());
         }
         Measured::new(case.name, input).unwrap();
     }
+}
+
+#[test]
+fn swept_cases_answer_as_expected() {
+    for sweep in SWEEPS {
+        for len in LENGTHS {
+            let case = format!("{}:{len}", sweep.name);
+            Measured::new(&case, sweep::input(&case).unwrap()).unwrap();
+        }
+    }
+    assert!(sweep::input("sweep-names:0").is_none());
+    assert!(sweep::input("sweep-names").is_none());
+}
+
+#[test]
+fn digits_are_grouped() {
+    let numbers = [0.0, 999.4, 999.6, 12_345.0, 1_234_567.0];
+    assert_eq!(numbers.map(grouped), ["0", "999", "1,000", "12,345", "1,234,567"]);
 }
 
 #[test]

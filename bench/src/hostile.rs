@@ -1,0 +1,168 @@
+//! Tables built to make the check take long: as full as the format allows, with
+//! what costs most in one rule or another. All are accepted but the one that
+//! breaks its rule at the last record.
+
+use crate::tables::{accepted, letters, Case, Input, Text, Tree};
+
+pub const CASES: &[Case] = &[
+    Case {
+        name: "hostile-names",
+        about: "4,096 names of 255 bytes over shared text, alike but for the last byte",
+        build: || accepted(names()),
+    },
+    Case {
+        name: "hostile-bodies",
+        about: "4,095 symbolic links with bodies of 4,095 bytes over shared text",
+        build: || accepted(bodies()),
+    },
+    Case {
+        name: "hostile-bodies-names",
+        about: "the same over less text, and 1,468 names of 255 bytes over it",
+        build: || accepted(bodies_and_names()),
+    },
+    Case {
+        name: "hostile-points",
+        about: "255 mount points at the end of a chain of 4,096 directories",
+        build: || accepted(points()),
+    },
+    Case {
+        name: "hostile-one-point",
+        about: "255 mounts, each in the one before, on the last of 4,096 directories",
+        build: || accepted(one_point(254)),
+    },
+    Case {
+        name: "hostile-clash",
+        about: "the same, the last two in the same mount: refused at the last",
+        build: || Input { expected: [6, 255, 0, 0, 0, 0], ..accepted(one_point(253)) },
+    },
+    Case {
+        name: "hostile-one-point-alone",
+        about: "255 mounts, each in the one before, on one of 2 directories, and nothing else",
+        build: || accepted(one_point_alone()),
+    },
+    Case {
+        name: "hostile-magic",
+        about: "3,840 magic links to the innermost of 256 nested roots, by every mount",
+        build: || accepted(magic_links(256)),
+    },
+    Case {
+        name: "hostile-magic-outer",
+        about: "the same, by the mount of the outermost root",
+        build: || accepted(magic_links(1)),
+    },
+    Case {
+        name: "hostile-magic-names",
+        about: "as hostile-magic, and 1,756 names of 255 bytes over shared text",
+        build: || accepted(magic_links_and_names()),
+    },
+];
+
+const NAME: usize = 255;
+const BODY: usize = 4_095;
+
+/// 126 names, each with text of its own, in each of 33 directories: more text
+/// does not fit beside 4,096 entries.
+fn names() -> Tree {
+    let (mut tree, top) = Tree::mounted();
+    let file = tree.file();
+    let mut directories = vec![top];
+    directories.extend((1..33).map(|_| tree.directory(top)));
+    let names: Vec<Text> = (0..126)
+        .map(|i| {
+            let mut name = [b'n'; NAME];
+            name[NAME - 1] = b'0' + i;
+            tree.text(&name)
+        })
+        .collect();
+    for i in 0..4_096 {
+        tree.name_as(directories[i / names.len()], names[i % names.len()], file);
+    }
+    tree
+}
+
+/// As many links as there may be nodes beside the top, and text for the rest.
+fn bodies() -> Tree {
+    let (mut tree, _) = Tree::mounted();
+    let all = tree.text(&letters(16_356));
+    links(&mut tree, all);
+    tree
+}
+
+/// The names are in one directory, of random letters and thus in no order.
+fn bodies_and_names() -> Tree {
+    let (mut tree, top) = Tree::mounted();
+    let all = tree.text(&letters(4_612));
+    links(&mut tree, all);
+    for i in 0..1_468 {
+        tree.name_as(top, all.part(2 * i, NAME), 1);
+    }
+    tree
+}
+
+fn links(tree: &mut Tree, all: Text) {
+    for i in 0..4_095 {
+        tree.symlink(all.part(3 * i % (all.len - BODY + 1), BODY));
+    }
+}
+
+/// The chain of 4,096 directories, as many of them named as fit beside 256
+/// mounts.
+fn chain() -> (Tree, Vec<u16>) {
+    let (mut tree, top) = Tree::mounted();
+    let name = tree.text(b"d");
+    let chain = tree.chain(top, name, 4_095, 1_789);
+    (tree, chain)
+}
+
+fn points() -> Tree {
+    let (mut tree, chain) = chain();
+    for &point in chain.iter().rev().take(255) {
+        tree.mount(0, 0, point);
+    }
+    tree
+}
+
+/// `last` is the parent of the last mount.
+fn one_point(last: u16) -> Tree {
+    let (mut tree, chain) = chain();
+    let point = chain[chain.len() - 1];
+    for parent in (0..254).chain([last]) {
+        tree.mount(0, parent, point);
+    }
+    tree
+}
+
+fn one_point_alone() -> Tree {
+    let (mut tree, top) = Tree::mounted();
+    let point = tree.directory(top);
+    for parent in 0..255 {
+        tree.mount(top, parent, point);
+    }
+    tree
+}
+
+/// A chain of 256 directories, each the root of a mount, and links to the last
+/// of them by the first `mounts` mounts in turn.
+fn magic_links(mounts: u16) -> Tree {
+    let (mut tree, mut directory) = Tree::mounted();
+    for _ in 1..256 {
+        directory = tree.directory(directory);
+        tree.mount(directory, 0, directory);
+    }
+    for i in 0..3_840 {
+        tree.magic_link(i % mounts, directory);
+    }
+    tree
+}
+
+/// Up to seven names in each directory: the same text from each of its first
+/// bytes on, so that each is alike the one before but for the last few bytes.
+fn magic_links_and_names() -> Tree {
+    let mut tree = magic_links(256);
+    let all = tree.text(&[[b'n'; 254].as_slice(), &[b'x'; 7]].concat());
+    for i in 0..1_756 {
+        let magic_link = 256;
+        tree.name_as((i / 7) as u16, all.part(i % 7, NAME), magic_link);
+    }
+    tree
+}
