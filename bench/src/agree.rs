@@ -140,7 +140,8 @@ fn tree(random: &mut Random) -> Tree {
     let mut parents = vec![(top, top)];
     let mut others = Vec::new();
     let deep = random.one_in(2);
-    for _ in 0..random.below(40) {
+    let most = random.pick(&[10, 40, 150]);
+    for _ in 0..random.below(most) {
         let (directory, _) = if deep { parents[parents.len() - 1] } else { random.pick(&parents) };
         match random.below(6) {
             0 => others.push(tree.file()),
@@ -155,7 +156,7 @@ fn tree(random: &mut Random) -> Tree {
 
     let roots = mounts(&mut tree, &parents, random);
     for _ in 0..random.below(12) {
-        let beyond = usize::from(random.one_in(64));
+        let beyond = usize::from(random.one_in(16));
         let mount = random.below(roots.len() + beyond);
         let root = roots.get(mount).copied().unwrap_or(top);
         let target = if others.is_empty() || random.one_in(2) {
@@ -204,7 +205,7 @@ fn mounts(tree: &mut Tree, parents: &[(u16, u16)], random: &mut Random) -> Vec<u
         let parent = random.below(roots.len());
         let point = under(parents, roots[parent], random);
         let is_sound = point != roots[parent] && !covered.contains(&(parent, point));
-        if is_sound || random.one_in(64) {
+        if is_sound || random.one_in(16) {
             covered.push((parent, point));
             tree.mount(root, parent as u16, point);
             roots.push(root);
@@ -213,9 +214,9 @@ fn mounts(tree: &mut Tree, parents: &[(u16, u16)], random: &mut Random) -> Vec<u
     roots
 }
 
-/// A directory that is under the root, but for one time in 64.
+/// A directory that is under the root, but for one time in 16.
 fn under(parents: &[(u16, u16)], root: u16, random: &mut Random) -> u16 {
-    if random.one_in(64) {
+    if random.one_in(16) {
         return random.pick(parents).0;
     }
     let parent = |of: u16| parents.iter().find(|&&(directory, _)| directory == of).unwrap().1;

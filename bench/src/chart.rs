@@ -10,6 +10,9 @@ const RIGHT: f64 = 60.0;
 const TOP: f64 = 50.0;
 const ROW: f64 = 22.0;
 const BAR: f64 = 14.0;
+/// Bars of higher ratios are cut off here, with a gap near their end: the others
+/// would be too short to tell apart.
+const MOST: f64 = 1.5;
 
 const PLAIN: &str = "#999";
 const PROVED: &str = "#4a7aa7";
@@ -52,8 +55,8 @@ pub fn draw(ratios: &[(&str, f64)], mean: f64, series: &[Series]) -> String {
 /// A bar for each case, as long as its ratio, and lines at 1, where both sides
 /// cost the same, and at the mean.
 fn bars(svg: &mut String, ratios: &[(&str, f64)], mean: f64) {
-    let longest = ratios.iter().map(|&(_, ratio)| ratio).fold(1.0, f64::max);
-    let x = |ratio: f64| LEFT + WIDTH * ratio / longest;
+    let longest = ratios.iter().map(|&(_, ratio)| ratio).fold(1.0, f64::max).min(MOST);
+    let x = |ratio: f64| LEFT + WIDTH * ratio.min(longest) / longest;
     let bottom = TOP + ROW * ratios.len() as f64;
     let _ = write!(
         svg,
@@ -73,6 +76,14 @@ fn bars(svg: &mut String, ratios: &[(&str, f64)], mean: f64) {
             x(ratio) - LEFT,
             x(ratio) + 5.0,
         );
+        if ratio > longest {
+            let (gap, height) = (x(ratio) - 20.0, BAR + 4.0);
+            let _ = writeln!(
+                svg,
+                r##"<path d="M{gap:.1} {:.1}l6 -{height:.1}" stroke="#fff" stroke-width="3"/>"##,
+                y + BAR + 2.0
+            );
+        }
     }
     for (ratio, colour, label_y, label) in [
         (1.0, "#333", bottom + 14.0, "1".to_string()),

@@ -110,7 +110,8 @@ pub fn measure() -> Result<Vec<Series>, Box<dyn Error>> {
                 (Some(_), None) => format!(" ({to_plain})"),
                 (Some(_), Some(_)) => format!(" ({to_plain}, {to_linear})"),
             };
-            cells.push(format!("{size}: {}{ratios}", grouped(sides.proved.unwrap_or(sides.plain))));
+            let instructions = grouped(sides.proved.unwrap_or(sides.plain));
+            cells.push(format!("{}: {instructions}{ratios}", grouped(size as f64)));
             points.push(Point { size, plain: sides.plain, proved: sides.proved });
         }
         row(&format!("{}: {}", growth.name, growth.about), &[cells.join("; ")]);

@@ -53,7 +53,12 @@ pub const CASES: &[Case] = &[
     Case {
         name: "hostile-magic-names",
         about: "as hostile-magic, and 1,756 names of 255 bytes over shared text",
-        build: || accepted(magic_links_and_names()),
+        build: || accepted(magic_links_and_names(256)),
+    },
+    Case {
+        name: "hostile-magic-outer-names",
+        about: "as hostile-magic-outer, and the same names",
+        build: || accepted(magic_links_and_names(1)),
     },
 ];
 
@@ -157,8 +162,8 @@ fn magic_links(mounts: u16) -> Tree {
 
 /// Up to seven names in each directory: the same text from each of its first
 /// bytes on, so that each is alike the one before but for the last few bytes.
-fn magic_links_and_names() -> Tree {
-    let mut tree = magic_links(256);
+fn magic_links_and_names(mounts: u16) -> Tree {
+    let mut tree = magic_links(mounts);
     let all = tree.text(&[[b'n'; 254].as_slice(), &[b'x'; 7]].concat());
     for i in 0..1_756 {
         let magic_link = 256;

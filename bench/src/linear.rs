@@ -486,5 +486,5 @@ fn marks<const SLASH: bool>(block: &[u8; 64]) -> u64 {
 fn equal(word: u64, byte: u8) -> u64 {
     const LOW: u64 = u64::from_ne_bytes([0x7F; 8]);
     let word = word ^ u64::from_ne_bytes([byte; 8]);
-    !((word & LOW) + LOW | word | LOW)
+    !(((word & LOW) + LOW) | word | LOW)
 }

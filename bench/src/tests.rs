@@ -483,6 +483,8 @@ fn the_chart_has_a_bar_for_each_ratio() {
     // The background and two bars.
     assert_eq!(svg.matches("<rect").count(), 3);
     assert!(svg.contains(">one<") && svg.contains(">4.00<"));
+    // The long one is cut off.
+    assert_eq!(svg.matches("<path").count(), 1);
     assert!(svg.starts_with("<svg ") && svg.ends_with("</svg>\n"));
 }
 
