@@ -12,7 +12,7 @@ use lib.Dec.{eqb, ltb}
 use lib.ListN.{length, getD, drop}
 use lib.Seq.{ext-getD}
 use Rattle.model.specs.Bytes.{field, sameBytes, before}
-use Rattle.theorems.proofs.ByteLaws.{field-ext, field-same}
+use Rattle.theorems.proofs.ByteLaws.{field-ext, field-same, field-split}
 use Rattle.theorems.proofs.Cases.{below-or}
 use Rattle.theorems.proofs.StringLaws.{same-equal, equal-same, before-next, before-short, before-ended}
 use Rattle.strings.specs.Blocks.{bigEndian, SameTo, Deciding}
@@ -145,6 +145,20 @@ second-decides width s t last hs ht l e = record {
   alike = λ i h. field-same width s t 0 hs ht e i (omega arith) (omega arith);
   differs = λ h f. omega arith;
 }
+
+-- of a block that decides between two strings, the half that does
+module _ {s t : List ℕ} {half short last at : ℕ} where
+  pub lower-half : Deciding (half + half) s t short at → short + half ≡ last → (field half s at ≡ field half t at → ⊥) → Deciding half s t last at
+  lower-half block fits other = record { within = omega (arith, block .within); alike = block .alike; differs = λ h f. other f }
+
+  pub upper-half : Bytes s → Bytes t → Deciding (half + half) s t short at → short + half ≡ last → field half s at ≡ field half t at
+      → Deciding half s t last (at + half)
+  upper-half hs ht block fits e = record {
+    within = omega (arith, block .within);
+    alike = further s t at at half (block .alike) (omega arith) (field-same half s t at hs ht e);
+    differs = λ h f. block .differs (omega arith)
+        (field-split half half s at ∙ ap₂ (λ (x y : ℕ). x + 256 ^ half * y) e f ∙ sym (field-split half half t at));
+  }
 
 -- the deciding block decides
 module _ (width : ℕ) (s t : List ℕ) (hs : Bytes s) (ht : Bytes t) (last at : ℕ) (block : Deciding width s t last at) where

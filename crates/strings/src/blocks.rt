@@ -21,13 +21,6 @@ pub fn big32_at(s: &[u8], at: usize) -> u64
     65536 * big16_at(s, at) + big16_at(s, at + 2)
 }
 
-pub fn big64_at(s: &[u8], at: usize) -> u64
-    requires { ⌜ at + 8 ≤ length (now s) ⌝ }
-    ensures { λ r. ⌜ (r ≡ bigEndian 8 (now (s .entry)) at) × (r < 2 ^ 64) ⌝ }
-{
-    4294967296 * big32_at(s, at) + big32_at(s, at + 4)
-}
-
 pub fn deciding_four(a: &[u8], b: &[u8], last: usize) -> usize
     requires { ⌜ (last ≤ 4) × (last + 4 ≤ length (now a)) × (last + 4 ≤ length (now b)) ⌝ }
     ensures { λ r. ⌜ Deciding 4 (now (a .entry)) (now (b .entry)) last r ⌝ }
@@ -50,4 +43,19 @@ pub fn deciding_eight(a: &[u8], b: &[u8], last: usize) -> usize
         i += 8;
     }
     last
+}
+
+// The four bytes that decide. A block of eight that decides is halved: its bytes highest first are not read by a single load.
+pub fn deciding(a: &[u8], b: &[u8], last: usize) -> usize
+    requires { ⌜ (last + 4 ≤ length (now a)) × (last + 4 ≤ length (now b)) ⌝ }
+    ensures { λ r. ⌜ Deciding 4 (now (a .entry)) (now (b .entry)) last r ⌝ }
+{
+    if last < 4 {
+        return deciding_four(a, b, last);
+    }
+    let at = deciding_eight(a, b, last - 4);
+    if u32_at(a, at) != u32_at(b, at) {
+        return at;
+    }
+    at + 4
 }

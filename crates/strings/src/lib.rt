@@ -2,18 +2,18 @@
 mod blocks;
 
 use crate::blocks::big32_at;
-use crate::blocks::big64_at;
+use crate::blocks::deciding;
 use crate::blocks::deciding_eight;
 use crate::blocks::deciding_four;
 use fields::u32_at;
 use fields::u64_at;
 ghost use mathlib.Core.Path.{_≡_};
 ghost use Prim.Native.Nat.{_≤_, _<_};
-ghost use lib.ListN.{length};
+ghost use lib.ListN.{length, drop};
 ghost use Rattle.model.specs.Bytes.{contains, sameBytes, before};
 
 // No early exit: the loop is then compiled to vector code.
-pub fn holds_byte(s: &[u8], b: u8) -> bool
+fn long_holds(s: &[u8], b: u8) -> bool
     ensures { λ r. ⌜ r ≡ contains b (now (s .entry)) ⌝ }
 {
     let mut found = false;
@@ -25,6 +25,39 @@ pub fn holds_byte(s: &[u8], b: u8) -> bool
         i += 1;
     }
     found
+}
+
+fn short_holds(s: &[u8], b: u8) -> bool
+    ensures { λ r. ⌜ r ≡ contains b (now (s .entry)) ⌝ }
+{
+    let mut i = 0;
+    while i < s.len() {
+        if s[i] == b {
+            return true;
+        }
+        i += 1;
+    }
+    false
+}
+
+// Strings shorter than this are read byte by byte: setting vector code up costs more than it saves.
+const SHORT: usize = 8;
+
+pub fn holds_byte(s: &[u8], b: u8) -> bool
+    ensures { λ r. ⌜ r ≡ contains b (now (s .entry)) ⌝ }
+{
+    if s.len() < SHORT {
+        return short_holds(s, b);
+    }
+    long_holds(s, b)
+}
+
+// Whether a byte stands in a string from a position on.
+pub fn holds_from(s: &[u8], at: usize, b: u8) -> bool
+    requires { ⌜ at ≤ length (now s) ⌝ }
+    ensures { λ r. ⌜ r ≡ contains b (drop at (now (s .entry))) ⌝ }
+{
+    holds_byte(&s[at..], b)
 }
 
 // Byte by byte, for the shortest.
@@ -101,18 +134,9 @@ pub fn comes_before(a: &[u8], b: &[u8]) -> bool
     if n < 4 {
         return before_bytes(a, b);
     }
-    if n < 8 {
-        let at = deciding_four(a, b, n - 4);
-        let x = big32_at(a, at);
-        let y = big32_at(b, at);
-        if x != y {
-            return x < y;
-        }
-        return a.len() < b.len();
-    }
-    let at = deciding_eight(a, b, n - 8);
-    let x = big64_at(a, at);
-    let y = big64_at(b, at);
+    let at = deciding(a, b, n - 4);
+    let x = big32_at(a, at);
+    let y = big32_at(b, at);
     if x != y {
         return x < y;
     }

@@ -3,6 +3,7 @@
 mod names;
 
 use crate::names::name_holds;
+use crate::names::text_clean;
 use image::records::Counts;
 use image::records::entry_node;
 use image::records::node_count;
@@ -22,6 +23,7 @@ ghost use Rattle.theorems.proofs.EntryLaws.{Held};
 ghost use Rattle.image.specs.Counts.{Counted};
 ghost use Rattle.image.specs.Searches.{searchOf};
 ghost use Rattle.table_entries.specs.Ranges.{badIn, badOf};
+ghost use Rattle.table_entries.specs.Texts.{Clean};
 
 // `first` is the first entry of the directory that holds the entry.
 fn entry_ascends(image: &[u8], c: Counts, n: usize, first: usize, e: usize) -> bool
@@ -49,11 +51,19 @@ fn stands_in_parent(image: &[u8], n: usize, e: usize, node: usize) -> bool
     parent < node
 }
 
-fn entry_holds(image: &[u8], c: Counts, text: usize, n: usize, first: usize, e: usize) -> bool
-    requires { ⌜ Counted (now image) c × NodesHold (treeOf (now image)) × Held (treeOf (now image)) n e × (first ≡ treeOf (now image) .first n) × (text ≡ treeOf (now image) .textLength) × (first < e → nameHolds (treeOf (now image)) (e - 1) ≡ true) ⌝ }
+fn entry_holds(
+    image: &[u8],
+    c: Counts,
+    text: usize,
+    n: usize,
+    first: usize,
+    e: usize,
+    clean: bool,
+) -> bool
+    requires { ⌜ Counted (now image) c × NodesHold (treeOf (now image)) × Held (treeOf (now image)) n e × (first ≡ treeOf (now image) .first n) × (text ≡ treeOf (now image) .textLength) × (first < e → nameHolds (treeOf (now image)) (e - 1) ≡ true) × (clean ≡ true → Clean (now image)) ⌝ }
     ensures { λ r. ⌜ r ≡ entryHolds (treeOf (now (image .entry))) e ⌝ }
 {
-    if !name_holds(image, c, text, e) {
+    if !name_holds(image, c, text, e, clean) {
         return false;
     }
     let node = entry_node(image, c, e);
@@ -66,15 +76,15 @@ fn entry_holds(image: &[u8], c: Counts, text: usize, n: usize, first: usize, e: 
     stands_in_parent(image, n, e, node)
 }
 
-fn bad_in_directory(image: &[u8], c: Counts, text: usize, n: usize) -> Search
-    requires { ⌜ Counted (now image) c × NodesHold (treeOf (now image)) × (isDirectory (treeOf (now image)) n ≡ true) × (text ≡ treeOf (now image) .textLength) ⌝ }
+fn bad_in_directory(image: &[u8], c: Counts, text: usize, n: usize, clean: bool) -> Search
+    requires { ⌜ Counted (now image) c × NodesHold (treeOf (now image)) × (isDirectory (treeOf (now image)) n ≡ true) × (text ≡ treeOf (now image) .textLength) × (clean ≡ true → Clean (now image)) ⌝ }
     ensures { λ r. ⌜ r ≡ searchOf (badIn (treeOf (now (image .entry))) (treeOf (now (image .entry)) .first n) (treeOf (now (image .entry)) .count n)) ⌝ }
 {
     let first = node_first(image, n);
     let end = first + node_count(image, n);
     let mut e = first;
     while e < end {
-        if !entry_holds(image, c, text, n, first, e) {
+        if !entry_holds(image, c, text, n, first, e, clean) {
             return Search::At(e);
         }
         e += 1;
@@ -82,14 +92,14 @@ fn bad_in_directory(image: &[u8], c: Counts, text: usize, n: usize) -> Search
     Search::Nowhere
 }
 
-fn bad_in_node(image: &[u8], c: Counts, text: usize, n: usize) -> Search
-    requires { ⌜ Counted (now image) c × NodesHold (treeOf (now image)) × (n < treeOf (now image) .nodes) × (text ≡ treeOf (now image) .textLength) ⌝ }
+fn bad_in_node(image: &[u8], c: Counts, text: usize, n: usize, clean: bool) -> Search
+    requires { ⌜ Counted (now image) c × NodesHold (treeOf (now image)) × (n < treeOf (now image) .nodes) × (text ≡ treeOf (now image) .textLength) × (clean ≡ true → Clean (now image)) ⌝ }
     ensures { λ r. ⌜ r ≡ searchOf (badOf (treeOf (now (image .entry))) n) ⌝ }
 {
     if node_kind(image, n) != 1 {
         return Search::Nowhere;
     }
-    bad_in_directory(image, c, text, n)
+    bad_in_directory(image, c, text, n, clean)
 }
 
 // Whether a directory has the last entry: the nodes after it have none.
@@ -103,14 +113,14 @@ fn ends_entries(image: &[u8], c: Counts, n: usize) -> bool
     node_first(image, n) + node_count(image, n) == c.entries
 }
 
-pub fn first_bad_entry(image: &[u8], c: Counts, text: usize) -> Search
-    requires { ⌜ Counted (now image) c × NodesHold (treeOf (now image)) × (text ≡ treeOf (now image) .textLength) ⌝ }
+fn bad_entry(image: &[u8], c: Counts, text: usize, clean: bool) -> Search
+    requires { ⌜ Counted (now image) c × NodesHold (treeOf (now image)) × (text ≡ treeOf (now image) .textLength) × (clean ≡ true → Clean (now image)) ⌝ }
     ensures { λ r. ⌜ r ≡ searchOf (rule5 (treeOf (now (image .entry)))) ⌝ }
 {
     let end = c.nodes;
     let mut n = 0;
     while n < end {
-        let found = bad_in_node(image, c, text, n);
+        let found = bad_in_node(image, c, text, n, clean);
         if let Search::At(e) = found {
             return Search::At(e);
         }
@@ -120,4 +130,14 @@ pub fn first_bad_entry(image: &[u8], c: Counts, text: usize) -> Search
         n += 1;
     }
     Search::Nowhere
+}
+
+pub fn first_bad_entry(image: &[u8], c: Counts, text: usize) -> Search
+    requires { ⌜ Counted (now image) c × NodesHold (treeOf (now image)) × (text ≡ treeOf (now image) .textLength) ⌝ }
+    ensures { λ r. ⌜ r ≡ searchOf (rule5 (treeOf (now (image .entry)))) ⌝ }
+{
+    if c.entries == 0 {
+        return Search::Nowhere;
+    }
+    bad_entry(image, c, text, text_clean(image, c, text))
 }

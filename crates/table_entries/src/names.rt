@@ -2,8 +2,10 @@
 use image::records::Counts;
 use image::records::name_length;
 use image::records::name_offset;
+use image::records::text_at;
 use image::texts::name;
-ghost use mathlib.Core.Bool.{_||_};
+use strings::holds_from;
+ghost use mathlib.Core.Bool.{true, false, _||_};
 ghost use mathlib.Core.Path.{_≡_};
 ghost use Prim.Native.Nat.{_≤_, _<_};
 ghost use lib.Dec.{eqb};
@@ -12,6 +14,7 @@ ghost use Rattle.model.specs.Bytes.{contains, sameBytes, ascii};
 ghost use Rattle.model.specs.Tree.{treeOf};
 ghost use Rattle.model.specs.TableCheck.{nameHolds};
 ghost use Rattle.image.specs.Counts.{Counted};
+ghost use Rattle.table_entries.specs.Texts.{Clean};
 
 fn forbidden(b: u8) -> bool
     ensures { λ r. ⌜ r ≡ eqb b 0 || eqb b 47 ⌝ }
@@ -60,10 +63,14 @@ fn long_holds_forbidden(s: &[u8]) -> bool
     slash
 }
 
-// Whether a zero byte or a slash stands in a name.
-fn holds_forbidden(s: &[u8]) -> bool
+// Whether a zero byte or a slash stands in a name. In a text that is clean none does.
+fn holds_forbidden(s: &[u8], clean: bool) -> bool
+    requires { ⌜ (clean ≡ true → (contains 0 (now s) ≡ false) × (contains 47 (now s) ≡ false)) ⌝ }
     ensures { λ r. ⌜ r ≡ contains 0 (now (s .entry)) || contains 47 (now (s .entry)) ⌝ }
 {
+    if clean {
+        return false;
+    }
     if s.len() < SHORT {
         return short_holds_forbidden(s);
     }
@@ -87,8 +94,23 @@ fn is_dots(s: &[u8]) -> bool
     s[1] == 46
 }
 
-pub fn name_holds(image: &[u8], c: Counts, text: usize, e: usize) -> bool
-    requires { ⌜ Counted (now image) c × (e < treeOf (now image) .entries) × (text ≡ treeOf (now image) .textLength) ⌝ }
+// Whether the text is known to have no zero byte and no slash: it is read, once for all names, unless it is long beside the entries.
+pub fn text_clean(image: &[u8], c: Counts, text: usize) -> bool
+    requires { ⌜ Counted (now image) c × (text ≡ treeOf (now image) .textLength) ⌝ }
+    ensures { λ r. ⌜ (r ≡ true → Clean (now (image .entry))) ⌝ }
+{
+    if 64 * c.entries < text + 1024 {
+        return false;
+    }
+    let at = text_at(image, c);
+    if holds_from(image, at, 0) {
+        return false;
+    }
+    !holds_from(image, at, 47)
+}
+
+pub fn name_holds(image: &[u8], c: Counts, text: usize, e: usize, clean: bool) -> bool
+    requires { ⌜ Counted (now image) c × (e < treeOf (now image) .entries) × (text ≡ treeOf (now image) .textLength) × (clean ≡ true → Clean (now image)) ⌝ }
     ensures { λ r. ⌜ r ≡ nameHolds (treeOf (now (image .entry))) e ⌝ }
 {
     let length = name_length(image, c, e);
@@ -102,7 +124,7 @@ pub fn name_holds(image: &[u8], c: Counts, text: usize, e: usize) -> bool
         return false;
     }
     let s = name(image, c, e);
-    if holds_forbidden(s) {
+    if holds_forbidden(s, clean) {
         return false;
     }
     !is_dots(s)

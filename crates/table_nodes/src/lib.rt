@@ -4,9 +4,12 @@ use image::records::node_count;
 use image::records::node_first;
 use image::records::node_kind;
 use image::records::node_parent;
+use image::records::text_at;
 use image::search::Search;
 use image::texts::body;
 use strings::holds_byte;
+use strings::holds_from;
+ghost use mathlib.Core.Bool.{true};
 ghost use mathlib.Core.Path.{_≡_};
 ghost use Prim.Native.Nat.{ℕ, _+_, _≤_, _<_};
 ghost use Rattle.model.specs.Tree.{treeOf};
@@ -14,6 +17,7 @@ ghost use Rattle.model.specs.TableCheck.{countsBefore, directoryCount, director
 ghost use Rattle.theorems.specs.Acceptance.{Sized};
 ghost use Rattle.image.specs.Counts.{Counted};
 ghost use Rattle.image.specs.Searches.{searchOf};
+ghost use Rattle.table_nodes.specs.Texts.{NoZero};
 
 // `sum` is the sum of earlier directories' counts. A parent numbered no higher than the node is below N, as the node is.
 fn directory_holds(image: &[u8], n: usize, sum: usize) -> bool
@@ -43,8 +47,9 @@ fn file_holds(image: &[u8], n: usize) -> bool
     node_count(image, n) == 0
 }
 
-fn symlink_holds(image: &[u8], c: Counts, text: usize, n: usize) -> bool
-    requires { ⌜ Counted (now image) c × (n < treeOf (now image) .nodes) × (text ≡ treeOf (now image) .textLength) ⌝ }
+// In a text that is clean no body has a zero byte.
+fn symlink_holds(image: &[u8], c: Counts, text: usize, n: usize, clean: bool) -> bool
+    requires { ⌜ Counted (now image) c × (n < treeOf (now image) .nodes) × (text ≡ treeOf (now image) .textLength) × (clean ≡ true → NoZero (now image)) ⌝ }
     ensures { λ r. ⌜ r ≡ symlinkHolds (treeOf (now (image .entry))) n ⌝ }
 {
     let count = node_count(image, n);
@@ -60,6 +65,9 @@ fn symlink_holds(image: &[u8], c: Counts, text: usize, n: usize) -> bool
     if 4095 < count {
         return false;
     }
+    if clean {
+        return true;
+    }
     !holds_byte(body(image, c, n), 0)
 }
 
@@ -71,14 +79,22 @@ fn magic_holds(image: &[u8], n: usize) -> bool
 }
 
 // The kind number, and its invalid range, decide which sentence a record has to keep.
-fn node_holds(image: &[u8], c: Counts, text: usize, n: usize, kind: usize, sum: usize) -> bool
-    requires { ⌜ Counted (now image) c × (n < treeOf (now image) .nodes) × (text ≡ treeOf (now image) .textLength) × (kind ≡ treeOf (now image) .kind n) × (sum ≡ countsBefore (treeOf (now image)) n) ⌝ }
+fn node_holds(
+    image: &[u8],
+    c: Counts,
+    text: usize,
+    n: usize,
+    kind: usize,
+    sum: usize,
+    clean: bool,
+) -> bool
+    requires { ⌜ Counted (now image) c × (n < treeOf (now image) .nodes) × (text ≡ treeOf (now image) .textLength) × (kind ≡ treeOf (now image) .kind n) × (sum ≡ countsBefore (treeOf (now image)) n) × (clean ≡ true → NoZero (now image)) ⌝ }
     ensures { λ r. ⌜ r ≡ nodeHolds (treeOf (now (image .entry))) n ⌝ }
 {
     match kind {
         1 => directory_holds(image, n, sum),
         2 => file_holds(image, n),
-        3 => symlink_holds(image, c, text, n),
+        3 => symlink_holds(image, c, text, n, clean),
         4 => magic_holds(image, n),
         _ => false,
     }
@@ -92,16 +108,28 @@ fn directory_count(image: &[u8], n: usize, kind: usize) -> usize
     if kind == 1 { node_count(image, n) } else { 0 }
 }
 
+// Whether the text is known to have no zero byte: it is read, once for all bodies, unless it is long beside the node records.
+fn text_clean(image: &[u8], c: Counts, text: usize) -> bool
+    requires { ⌜ Counted (now image) c × (text ≡ treeOf (now image) .textLength) ⌝ }
+    ensures { λ r. ⌜ (r ≡ true → NoZero (now (image .entry))) ⌝ }
+{
+    if 32 * c.nodes < text + 512 {
+        return false;
+    }
+    !holds_from(image, text_at(image, c), 0)
+}
+
 pub fn first_bad_node(image: &[u8], c: Counts, text: usize) -> Search
     requires { ⌜ Counted (now image) c × (text ≡ treeOf (now image) .textLength) ⌝ }
     ensures { λ r. ⌜ r ≡ searchOf (rule4 (treeOf (now (image .entry)))) ⌝ }
 {
+    let clean = text_clean(image, c, text);
     let end = c.nodes;
     let mut sum = 0;
     let mut n = 0;
     while n < end {
         let kind = node_kind(image, n);
-        if !node_holds(image, c, text, n, kind, sum) {
+        if !node_holds(image, c, text, n, kind, sum, clean) {
             return Search::At(n);
         }
         sum += directory_count(image, n, kind);

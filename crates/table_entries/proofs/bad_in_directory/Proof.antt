@@ -19,11 +19,11 @@ use Rattle.table_entries.proofs.bad_in_directory.Statement.{statement}
 use Rattle.table_entries.proofs.bad_in_directory.Tie as tie
 
 abbrev Inv-loop : tie.InvT-loop
-Inv-loop image c text n first end e₀ e = (first ≡ treeOf image .first n) × (end ≡ first + treeOf image .count n) × (first ≤ e) × (e ≤ end)
+Inv-loop image c text n clean first end e₀ e = (first ≡ treeOf image .first n) × (end ≡ first + treeOf image .count n) × (first ≤ e) × (e ≤ end)
     × (first < e → nameHolds (treeOf image) (e - 1) ≡ true) × (badIn (treeOf image) (treeOf image .first n) (treeOf image .count n) ≡ badIn (treeOf image) e (end - e))
 
 abbrev μ-loop : tie.MeasureT-loop
-μ-loop image c text n first end e₀ e = end - e
+μ-loop image c text n clean first end e₀ e = end - e
 
 node-first-requires : tie.Need-node-first-requires Inv-loop μ-loop
 node-first-requires c κs = (c .before .pre .0 .sized, directory-below (treeOf (now (c .before .args .image))) (c .before .pre .1) (c .before .args .n) (c .before .pre .2))
@@ -43,7 +43,7 @@ loop-holds c =
 
 entry-holds-requires : tie.Need-entry-holds-requires Inv-loop μ-loop
 entry-holds-requires c κs =
-    (c .before .before .before .before .before .pre .0, c .before .before .before .before .before .pre .1, record { directory = c .before .before .before .before .before .pre .2; from = omega arith; below = omega arith }, c .before .loop .inv .0, c .before .before .before .before .before .pre .3, c .before .loop .inv .4)
+    (c .before .before .before .before .before .pre .0, c .before .before .before .before .before .pre .1, record { directory = c .before .before .before .before .before .pre .2; from = omega arith; below = omega arith }, c .before .loop .inv .0, c .before .before .before .before .before .pre .3, c .before .loop .inv .4, c .before .before .before .before .before .pre .4)
 
 returns : tie.Need-returns Inv-loop μ-loop
 returns c = sym (ap searchOf (c .before .before .before .loop .inv .5 ∙ find-here (λ k. not (entryHolds (treeOf (now (c .before .before .before .before .before .before .before .args .image))) k)) (c .before .before .before .loop .e) _ (c .before .before .loop-test .taken) (ap not (sym (c .before .entry-holds .ensures)) ∙ c .if1 .taken)))

@@ -22,7 +22,7 @@ returns c = let t = treeOf (now (c .before .before .before .args .image)) in rw 
 
 bad-in-directory-requires : tie.Need-bad-in-directory-requires
 bad-in-directory-requires c κs =
-    (c .before .before .before .pre .0, c .before .before .before .pre .1, is-directory (treeOf (now (c .before .before .before .args .image))) (c .before .before .before .args .n) (c .before .before .before .pre .2) (sym (c .before .node-kind .ensures .0) ∙ c .if1 .left), c .before .before .before .pre .3)
+    (c .before .before .before .pre .0, c .before .before .before .pre .1, is-directory (treeOf (now (c .before .before .before .args .image))) (c .before .before .before .args .n) (c .before .before .before .pre .2) (sym (c .before .node-kind .ensures .0) ∙ c .if1 .left), c .before .before .before .pre .3, c .before .before .before .pre .4)
 
 returns-2 : tie.Need-returns-2
 unfolding directoryCount

@@ -11,7 +11,7 @@ use Rattle.table_entries.proofs.entry_holds.Statement.{statement}
 use Rattle.table_entries.proofs.entry_holds.Tie as tie
 
 name-holds-requires : tie.Need-name-holds-requires
-name-holds-requires c κs = let i = entries-inside (treeOf (now (c .before .args .image))) (c .before .pre .1) (c .before .args .n) (c .before .pre .2 .directory) in (c .before .pre .0, omega (arith, c .before .pre .2 .below), c .before .pre .4)
+name-holds-requires c κs = let i = entries-inside (treeOf (now (c .before .args .image))) (c .before .pre .1) (c .before .args .n) (c .before .pre .2 .directory) in (c .before .pre .0, omega (arith, c .before .pre .2 .below), c .before .pre .4, c .before .pre .6)
 
 returns : tie.Need-returns
 unfolding entryHolds

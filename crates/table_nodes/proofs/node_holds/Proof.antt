@@ -15,7 +15,7 @@ file-holds-requires : tie.Need-file-holds-requires
 file-holds-requires c κs = search needs
 
 symlink-holds-requires : tie.Need-symlink-holds-requires
-symlink-holds-requires c κs = search needs
+symlink-holds-requires c κs = (c .before .before .pre .0, c .before .before .pre .1, c .before .before .pre .2, c .before .before .pre .5)
 
 magic-holds-requires : tie.Need-magic-holds-requires
 magic-holds-requires c κs = search needs

@@ -9,6 +9,7 @@ use denote.Ref.{now}
 use Rattle.model.specs.Bytes.{contains}
 use Rattle.model.specs.Tree.{treeOf}
 use Rattle.model.specs.TableCheck.{symlinkHolds}
+use Rattle.table_nodes.proofs.BodyLaws.{body-no-zero}
 use Rattle.table_nodes.proofs.symlink_holds.Statement.{statement}
 use Rattle.table_nodes.proofs.symlink_holds.Tie as tie
 
@@ -40,19 +41,26 @@ returns-4 : tie.Need-returns-4
 unfolding symlinkHolds
 returns-4 c = let t = treeOf (now (c .before .before .before .before .before .before .before .before .args .image)) in simp (lt-leb (t .count (c .before .before .before .before .before .before .before .before .args .n)) 4095 (omega arith), and-false)
 
+returns-5 : tie.Need-returns-5
+unfolding symlinkHolds
+returns-5 c =
+    let t = treeOf (now (c .before .before .before .before .before .before .before .before .before .args .image)) in
+    let n = c .before .before .before .before .before .before .before .before .before .args .n in
+    rw (eq-eqb (t .parent n) 0 (sym (c .before .before .before .before .before .before .node-parent .ensures .0) ∙ c .before .before .before .before .before .if1 .left), le-leb (t .first n + t .count n) (t .textLength) (omega arith), le-leb 1 (t .count n) (omega arith), le-leb (t .count n) 4095 (omega arith), body-no-zero (now (c .before .before .before .before .before .before .before .before .before .args .image)) n (c .before .before .before .before .before .before .before .before .before .pre .3 (c .if5 .taken)))
+
 body-requires : tie.Need-body-requires
 body-requires c κs = search needs
 
 holds-byte-requires : tie.Need-holds-byte-requires
 holds-byte-requires c κs = search needs
 
-returns-5 : tie.Need-returns-5
+returns-6 : tie.Need-returns-6
 unfolding symlinkHolds
-returns-5 c =
-    let t = treeOf (now (c .before .before .before .before .before .before .before .before .before .before .args .image)) in
-    let n = c .before .before .before .before .before .before .before .before .before .before .args .n in
+returns-6 c =
+    let t = treeOf (now (c .before .before .before .before .before .before .before .before .before .before .before .args .image)) in
+    let n = c .before .before .before .before .before .before .before .before .before .before .before .args .n in
     ap not (c .holds-byte .ensures ∙ ap (contains 0) (c .before .body .ensures))
-    ∙ rw (eq-eqb (t .parent n) 0 (sym (c .before .before .before .before .before .before .before .node-parent .ensures .0) ∙ c .before .before .before .before .before .before .if1 .left), le-leb (t .first n + t .count n) (t .textLength) (omega arith), le-leb 1 (t .count n) (omega arith), le-leb (t .count n) 4095 (omega arith))
+    ∙ rw (eq-eqb (t .parent n) 0 (sym (c .before .before .before .before .before .before .before .before .node-parent .ensures .0) ∙ c .before .before .before .before .before .before .before .if1 .left), le-leb (t .first n + t .count n) (t .textLength) (omega arith), le-leb 1 (t .count n) (omega arith), le-leb (t .count n) 4095 (omega arith))
 
 pub symlink-holds-spec : {M : Type 1} → statement M
 symlink-holds-spec =
@@ -66,6 +74,7 @@ symlink-holds-spec =
     returns-2
     returns-3
     returns-4
+    returns-5
     body-requires
     holds-byte-requires
-    returns-5)
+    returns-6)

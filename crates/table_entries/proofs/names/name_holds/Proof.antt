@@ -7,9 +7,10 @@ use native.Mathlib.Omega.{arith}
 use borrow.Author.Tests.{le-leb, lt-leb}
 use lib.ListN.{length}
 use denote.Ref.{now}
+use Rattle.model.specs.Bytes.{contains}
 use Rattle.model.specs.Tree.{treeOf}
 use Rattle.theorems.proofs.Acceptance.{name-whole}
-use Rattle.table_entries.proofs.NameLaws.{forbids, dots, name-test}
+use Rattle.table_entries.proofs.NameLaws.{forbids, dots, name-test, name-clean}
 use Rattle.table_entries.proofs.names.name_holds.Statement.{statement}
 use Rattle.table_entries.proofs.names.name_holds.Tie as tie
 
@@ -35,7 +36,10 @@ name-requires : tie.Need-name-requires
 name-requires c κs = search needs
 
 holds-forbidden-requires : tie.Need-holds-forbidden-requires
-holds-forbidden-requires c κs = search needs
+holds-forbidden-requires c κs = λ k.
+    let s = now (c .before .before .before .before .before .before .before .args .image) in
+    let n = c .name .ensures in
+    (ap (contains 0) n ∙ name-clean 0 s (c .before .before .before .before .before .before .before .args .e) (c .before .before .before .before .before .before .before .pre .3 k .0), ap (contains 47) n ∙ name-clean 47 s (c .before .before .before .before .before .before .before .args .e) (c .before .before .before .before .before .before .before .pre .3 k .1))
 
 returns-4 : tie.Need-returns-4
 returns-4 c = let t = treeOf (now (c .before .before .before .before .before .before .before .before .before .args .image)) in sym (name-test t (c .before .before .before .before .before .before .before .before .before .args .e) ∙ simp (ap forbids (sym (c .before .before .name .ensures)) ∙ sym (c .before .holds-forbidden .ensures) ∙ c .if4 .taken, and-false))

@@ -1,4 +1,4 @@
--- `strings::holds_byte` meets its contract. The loop's invariant: the byte stands in the string if it was found, or stands from
+-- `strings::long_holds` meets its contract. The loop's invariant: the byte stands in the string if it was found, or stands from
 -- `i` on. Assumes nothing.
 use Prim.Native.Nat.{_≤_, _-_}
 use mathlib.Core.Bool.{_||_}
@@ -9,8 +9,8 @@ use lib.ListN.{length, drop}
 use denote.Ref.{now}
 use Rattle.model.specs.Bytes.{contains}
 use Rattle.theorems.proofs.StringLaws.{seen-hit, seen-miss, seen-all}
-use Rattle.strings.proofs.holds_byte.Statement.{statement}
-use Rattle.strings.proofs.holds_byte.Tie as tie
+use Rattle.strings.proofs.long_holds.Statement.{statement}
+use Rattle.strings.proofs.long_holds.Tie as tie
 
 abbrev Inv-loop : tie.InvT-loop
 Inv-loop s b found₀ i₀ found i = (i ≤ length s) × (contains b s ≡ found || contains b (drop i s))
@@ -46,7 +46,7 @@ loop-again c =
 returns : tie.Need-returns Inv-loop μ-loop
 returns c = seen-all (c .before .before .args .b) (now (c .before .before .args .s)) (c .before .loop .i) (c .before .loop .found) (c .loop-test .left) (c .before .loop .inv .1)
 
-pub holds-byte-spec : {M : Type 1} → statement M
-holds-byte-spec =
+pub long-holds-spec : {M : Type 1} → statement M
+long-holds-spec =
     tie.close
     (tie.spec Inv-loop μ-loop loop-holds shared-slice-read-if1 add-i loop-less loop-again returns)

@@ -1,0 +1,36 @@
+-- A byte that does not stand in a string from a position on stands in no part of it from there on. Assumes nothing.
+use Prim.Native.Nat.{ℕ, zero, suc, _+_, _-_, _≤_}
+use mathlib.Core.Bool.{Bool, true, false, _||_, true≢false}
+use mathlib.Core.List.{List, [], _∷_}
+use mathlib.Core.Path.{_≡_, refl, sym, ap, _∙_}
+use native.Mathlib.Omega.{arith}
+use lib.Dec.{eqb}
+use lib.ListN.{take, drop}
+use lib.Seq.{drop-drop}
+use Rattle.model.specs.Bytes.{part, contains}
+
+-- both parts of a disjunction that does not hold
+neither : (a b : Bool) → (a || b) ≡ false → (a ≡ false) × (b ≡ false)
+neither true b e = absurd (true≢false e)
+neither false b e = (refl, e)
+
+not-in-drop : (b n : ℕ) (s : List ℕ) → contains b s ≡ false → contains b (drop n s) ≡ false
+unfolding contains
+not-in-drop b zero s e = e
+not-in-drop b (suc n) [] e = refl
+not-in-drop b (suc n) (x ∷ s) e = not-in-drop b n s (neither (eqb x b) (contains b s) e .1)
+
+not-in-take : (b n : ℕ) (s : List ℕ) → contains b s ≡ false → contains b (take n s) ≡ false
+unfolding contains
+not-in-take b zero s e = refl
+not-in-take b (suc n) [] e = refl
+not-in-take b (suc n) (x ∷ s) e =
+    let both = neither (eqb x b) (contains b s) e in
+    rw (both .0, not-in-take b n s (both .1))
+
+pub not-in-part : (b : ℕ) (s : List ℕ) (at from count : ℕ) → at ≤ from → contains b (drop at s) ≡ false → contains b (part s from count) ≡ false
+unfolding part
+not-in-part b s at from count l e =
+    let there : at + (from - at) ≡ from = omega arith in
+    let later : drop (from - at) (drop at s) ≡ drop from s = drop-drop (from - at) at s ∙ ap (λ (k : ℕ). drop k s) there in
+    not-in-take b count (drop from s) (ap (contains b) (sym later) ∙ not-in-drop b (from - at) (drop at s) e)

@@ -1,0 +1,43 @@
+-- `strings::short_holds` meets its contract. The loop's invariant: the byte does not stand before `i`. Assumes nothing.
+use Prim.Native.Nat.{_≤_, _-_}
+use mathlib.Core.Bool.{false}
+use mathlib.Core.Path.{_≡_, refl, sym}
+use native.Mathlib.Omega.{arith}
+use lib.ListN.{length, drop}
+use denote.Ref.{now}
+use Rattle.model.specs.Bytes.{contains}
+use Rattle.theorems.proofs.StringLaws.{seen-hit, seen-miss, seen-all}
+use Rattle.strings.proofs.short_holds.Statement.{statement}
+use Rattle.strings.proofs.short_holds.Tie as tie
+
+abbrev Inv-loop : tie.InvT-loop
+Inv-loop s b i₀ i = (i ≤ length s) × (contains b s ≡ contains b (drop i s))
+
+abbrev μ-loop : tie.MeasureT-loop
+μ-loop s b i₀ i = length s - i
+
+loop-holds : tie.Need-loop-holds Inv-loop μ-loop
+loop-holds c = (omega arith, refl)
+
+shared-slice-read-if1 : tie.Need-shared-slice-read-if1 Inv-loop μ-loop
+shared-slice-read-if1 c = omega arith
+
+returns : tie.Need-returns Inv-loop μ-loop
+returns c = let a = c .before .before .before .before .args in sym (seen-hit (a .b) (now (a .s)) (c .before .before .before .loop .i) false (c .before .before .loop-test .taken) (c .before .before .before .loop .inv .1) (c .if1 .taken))
+
+add-i : tie.Need-add-i Inv-loop μ-loop
+add-i c = omega arith
+
+loop-less : tie.Need-loop-less Inv-loop μ-loop
+loop-less c = omega arith
+
+loop-again : tie.Need-loop-again Inv-loop μ-loop
+loop-again c = let a = c .before .before .before .before .args in (omega arith, seen-miss (a .b) (now (a .s)) (c .before .before .before .loop .i) false (c .before .before .loop-test .taken) (c .before .before .before .loop .inv .1) (c .if1 .left))
+
+returns-2 : tie.Need-returns-2 Inv-loop μ-loop
+returns-2 c = let a = c .before .before .args in seen-all (a .b) (now (a .s)) (c .before .loop .i) false (c .loop-test .left) (c .before .loop .inv .1)
+
+pub short-holds-spec : {M : Type 1} → statement M
+short-holds-spec =
+    tie.close
+    (tie.spec Inv-loop μ-loop loop-holds shared-slice-read-if1 returns add-i loop-less loop-again returns-2)

@@ -1,0 +1,52 @@
+-- `table_entries::names::text_clean` meets its contract. Assumes nothing.
+use borrow.Author.Needs.{needs}
+use borrow.Author.Tests.{not-true}
+use Prim.Native.Nat.{ℕ}
+use mathlib.Core.Bool.{false≢true}
+use mathlib.Core.Path.{ap, _∙_, sym}
+use native.Mathlib.Omega.{arith}
+use lib.ListN.{drop}
+use denote.Ref.{now}
+use Rattle.model.specs.Bytes.{contains}
+use Rattle.table_entries.proofs.names.text_clean.Statement.{statement}
+use Rattle.table_entries.proofs.names.text_clean.Tie as tie
+
+mul-if1 : tie.Need-mul-if1
+mul-if1 c = search needs
+
+add-if1 : tie.Need-add-if1
+add-if1 c = search needs
+
+returns : tie.Need-returns
+returns c = λ e. absurd (false≢true e)
+
+text-at-requires : tie.Need-text-at-requires
+text-at-requires c κs = search needs
+
+holds-from-requires : tie.Need-holds-from-requires
+holds-from-requires c κs = omega (arith, c .text-at .ensures .1)
+
+returns-2 : tie.Need-returns-2
+returns-2 c = λ e. absurd (false≢true e)
+
+holds-from-requires-2 : tie.Need-holds-from-requires-2
+holds-from-requires-2 c κs = omega (arith, c .before .before .text-at .ensures .1)
+
+returns-3 : tie.Need-returns-3
+returns-3 c = λ e. (
+  ap (λ (k : ℕ). contains 0 (drop k (now (c .before .before .before .before .before .before .before .args .image)))) (sym (c .before .before .before .text-at .ensures .0)) ∙ sym (c .before .before .holds-from .ensures) ∙ c .before .if2 .left,
+  ap (λ (k : ℕ). contains 47 (drop k (now (c .before .before .before .before .before .before .before .args .image)))) (sym (c .before .before .before .text-at .ensures .0)) ∙ sym (c .holds-from2 .ensures) ∙ not-true _ e,
+)
+
+pub text-clean-spec : {M : Type 1} → statement M
+text-clean-spec =
+    tie.close
+    (tie.spec
+    mul-if1
+    add-if1
+    returns
+    text-at-requires
+    holds-from-requires
+    returns-2
+    holds-from-requires-2
+    returns-3)
