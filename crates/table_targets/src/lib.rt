@@ -1,26 +1,31 @@
 // Rule 7 of the table check: the targets of magic links. A first pass goes as far as records alone keep the rule. Only where a magic
-// link leads to a directory is there more to do: for each directory the nearest mount root at or above it is noted, so that the way
-// up from a link's target goes from mount root to mount root.
+// link leads to a directory is there more to do: its parents are followed in a number of steps that all links share, and from the first
+// link on that is not seen to keep the rule the exact way decides.
 use image::records::Counts;
 use image::records::mount_root;
 use image::records::node_count;
 use image::records::node_first;
 use image::records::node_kind;
-use image::records::node_parent;
 use image::search::Search;
+use table_under::chart;
+use table_under::climb;
+use table_under::is_within;
 ghost use mathlib.Core.Bool.{true};
 ghost use mathlib.Core.Path.{_≡_};
 ghost use Prim.Native.Nat.{_≤_, _<_};
-ghost use lib.ListN.{length};
-ghost use Rattle.model.specs.Tree.{treeOf, isDirectory, under};
+ghost use Rattle.model.specs.Tree.{treeOf};
 ghost use Rattle.model.specs.TableCheck.{rule7, magicTargetHolds};
-ghost use Rattle.theorems.specs.Acceptance.{Sized, NodesHold, MountsHold};
+ghost use Rattle.theorems.specs.Acceptance.{NodesHold, MountsHold};
 ghost use Rattle.image.specs.Counts.{Counted};
 ghost use Rattle.image.specs.Searches.{searchOf};
-ghost use Rattle.table_targets.specs.Targets.{leadOf, settled, badFrom, Rooted, nearestOf, Filled};
+ghost use Rattle.table_under.specs.Roots.{Charted};
+ghost use Rattle.table_targets.specs.Targets.{leadOf, settled, badFrom};
 
-// The most nodes that a table has: the local array has a number for each.
+// The most nodes that a table has: the local arrays have a number for each.
 const NODES: usize = 4096;
+
+// So few nodes get more steps than their links can take: clearing the arrays would cost more.
+const SMALL: usize = 64;
 
 // What a node's record alone tells of the rule.
 enum Lead {
@@ -81,92 +86,55 @@ fn first_unsettled(image: &[u8], c: Counts) -> usize
     n
 }
 
-// Gives each mount's root its own number and 1.
-fn note_roots(image: &[u8], c: Counts, near: &mut [u16])
-    requires { ⌜ Counted (now image) c × NodesHold (treeOf (now image)) × MountsHold (treeOf (now image)) × Rooted (treeOf (now image)) 0 (now near) ⌝ }
-    ensures { λ _. ⌜ Rooted (treeOf (now (image .entry))) (treeOf (now (image .entry)) .mounts) (now (near .exit)) × (length (now (near .exit)) ≡ length (now (near .entry))) ⌝ }
+// How many of the steps are left once the node is seen to keep the rule, or 0 where it is not seen.
+fn steps_left(image: &[u8], c: Counts, n: usize, steps: usize) -> usize
+    requires { ⌜ Counted (now image) c × NodesHold (treeOf (now image)) × (n < treeOf (now image) .nodes) ⌝ }
+    ensures { λ r. ⌜ (0 < r → magicTargetHolds (treeOf (now (image .entry))) n ≡ true) ⌝ }
 {
-    let end = c.mounts;
-    let mut m = 0;
-    while m < end {
-        let root = mount_root(image, c, m);
-        near[root] = (root + 1) as u16;
-        m += 1;
+    match lead_of(image, c, n) {
+        Lead::Settled => steps,
+        Lead::Into(mount, target) => climb(image, target, mount_root(image, c, mount), steps),
+        Lead::Dangling => 0,
     }
 }
 
-// A directory that is no root has what its parent has: parents are never higher, and a top, its own parent, has none. What stands
-// at nodes of other kinds is never asked.
-fn nearest(image: &[u8], near: &[u16], n: usize) -> u16
-    requires { ⌜ Sized (now image) × (n < treeOf (now image) .nodes) × (n < length (now near)) ⌝ }
-    ensures { λ r. ⌜ r ≡ nearestOf (treeOf (now (image .entry))) (now (near .entry)) n ⌝ }
-{
-    let own = near[n];
-    if own != 0 {
-        return own;
-    }
-    let parent = node_parent(image, n);
-    if parent < n {
-        return near[parent];
-    }
-    0
-}
-
-// Gives each directory the nearest mount root at or above it, as the root's number and 1, or 0 where there is none.
-fn pass_down(image: &[u8], c: Counts, near: &mut [u16])
-    requires { ⌜ Counted (now image) c × NodesHold (treeOf (now image)) × Rooted (treeOf (now image)) (treeOf (now image) .mounts) (now near) ⌝ }
-    ensures { λ _. ⌜ Filled (treeOf (now (image .entry))) (treeOf (now (image .entry)) .nodes) (now (near .exit)) × (length (now (near .exit)) ≡ length (now (near .entry))) ⌝ }
+// The lowest node from `from` on that is not seen to keep the rule, else the number of nodes.
+fn first_unseen(image: &[u8], c: Counts, from: usize, steps: usize) -> usize
+    requires { ⌜ Counted (now image) c × NodesHold (treeOf (now image)) × (from ≤ treeOf (now image) .nodes) ⌝ }
+    ensures { λ r. ⌜ (r ≤ treeOf (now (image .entry)) .nodes) × (badFrom (treeOf (now (image .entry))) from ≡ badFrom (treeOf (now (image .entry))) r) ⌝ }
 {
     let end = c.nodes;
-    let mut n = 0;
+    let mut left = steps;
+    let mut n = from;
     while n < end {
-        near[n] = nearest(image, near, n);
+        left = steps_left(image, c, n, left);
+        if left == 0 {
+            return n;
+        }
         n += 1;
     }
+    n
 }
 
-fn wide(k: u16) -> usize
-    ensures { λ r. ⌜ (r ≡ k) × (r < 65536) ⌝ }
-{
-    k as usize
-}
-
-// Whether a directory is under a mount's root.
-fn is_within(image: &[u8], c: Counts, near: &[u16], mount: usize, target: usize) -> bool
-    requires { ⌜ Counted (now image) c × NodesHold (treeOf (now image)) × Filled (treeOf (now image)) (treeOf (now image) .nodes) (now near) × (mount < treeOf (now image) .mounts) × (isDirectory (treeOf (now image)) target ≡ true) ⌝ }
-    ensures { λ r. ⌜ r ≡ under (treeOf (now (image .entry))) target (treeOf (now (image .entry)) .mountRoot mount) ⌝ }
-{
-    let root = mount_root(image, c, mount);
-    let mut k = wide(near[target]);
-    while root + 1 < k {
-        let parent = node_parent(image, k - 1);
-        if parent + 1 == k {
-            return false;
-        }
-        k = wide(near[parent]);
-    }
-    k == root + 1
-}
-
-fn target_holds(image: &[u8], c: Counts, near: &[u16], n: usize) -> bool
-    requires { ⌜ Counted (now image) c × NodesHold (treeOf (now image)) × Filled (treeOf (now image)) (treeOf (now image) .nodes) (now near) × (n < treeOf (now image) .nodes) ⌝ }
+fn target_holds(image: &[u8], c: Counts, near: &[u16], leaps: &[u16], n: usize) -> bool
+    requires { ⌜ Counted (now image) c × NodesHold (treeOf (now image)) × Charted (treeOf (now image)) (now near) (now leaps) × (n < treeOf (now image) .nodes) ⌝ }
     ensures { λ r. ⌜ r ≡ magicTargetHolds (treeOf (now (image .entry))) n ⌝ }
 {
     match lead_of(image, c, n) {
         Lead::Settled => true,
-        Lead::Into(mount, target) => is_within(image, c, near, mount, target),
+        Lead::Into(mount, target) => is_within(image, c, near, leaps, mount, target),
         Lead::Dangling => false,
     }
 }
 
-fn first_failing(image: &[u8], c: Counts, near: &[u16], from: usize) -> Search
-    requires { ⌜ Counted (now image) c × NodesHold (treeOf (now image)) × Filled (treeOf (now image)) (treeOf (now image) .nodes) (now near) × (from ≤ treeOf (now image) .nodes) ⌝ }
+fn first_failing(image: &[u8], c: Counts, near: &[u16], leaps: &[u16], from: usize) -> Search
+    requires { ⌜ Counted (now image) c × NodesHold (treeOf (now image)) × Charted (treeOf (now image)) (now near) (now leaps) × (from ≤ treeOf (now image) .nodes) ⌝ }
     ensures { λ r. ⌜ r ≡ searchOf (badFrom (treeOf (now (image .entry))) from) ⌝ }
 {
     let end = c.nodes;
     let mut n = from;
     while n < end {
-        if !target_holds(image, c, near, n) {
+        if !target_holds(image, c, near, leaps, n) {
             return Search::At(n);
         }
         n += 1;
@@ -174,14 +142,19 @@ fn first_failing(image: &[u8], c: Counts, near: &[u16], from: usize) -> Search
     Search::Nowhere
 }
 
-fn first_bad_from(image: &[u8], c: Counts, from: usize) -> Search
-    requires { ⌜ Counted (now image) c × NodesHold (treeOf (now image)) × MountsHold (treeOf (now image)) × (from ≤ treeOf (now image) .nodes) ⌝ }
+// The lowest node from `from` on that breaks the rule.
+fn first_bad_from(image: &[u8], c: Counts, from: usize, steps: usize) -> Search
+    requires { ⌜ Counted (now image) c × NodesHold (treeOf (now image)) × (from ≤ treeOf (now image) .nodes) ⌝ }
     ensures { λ r. ⌜ r ≡ searchOf (badFrom (treeOf (now (image .entry))) from) ⌝ }
 {
+    let unseen = first_unseen(image, c, from, steps);
+    if c.nodes <= unseen {
+        return Search::Nowhere;
+    }
     let mut near = [0u16; NODES];
-    note_roots(image, c, &mut near);
-    pass_down(image, c, &mut near);
-    first_failing(image, c, &near, from)
+    let mut leaps = [0u16; NODES];
+    chart(image, c, &mut near, &mut leaps);
+    first_failing(image, c, &near, &leaps, unseen)
 }
 
 // The lowest node whose magic link has a bad target.
@@ -193,5 +166,8 @@ pub fn first_bad_target(image: &[u8], c: Counts) -> Search
     if c.nodes <= from {
         return Search::Nowhere;
     }
-    first_bad_from(image, c, from)
+    if c.nodes <= SMALL {
+        return first_bad_from(image, c, from, SMALL * SMALL);
+    }
+    first_bad_from(image, c, from, 2 * c.nodes)
 }

@@ -1,48 +1,51 @@
--- `table_mounts::mount_holds` meets its contract: each return is a sentence of the rule that fails, or the last one. Assumes nothing.
+-- `table_mounts::mount_holds` meets its contract: what is left of the rule is that the point is under the parent's root. Assumes nothing.
 use borrow.Author.Needs.{needs}
-use mathlib.Core.Bool.{and-false}
-use mathlib.Core.Path.{ap, _∙_, sym}
-use borrow.Author.Tests.{eq-eqb, ne-eqb, not-true, not-false}
+use Prim.Native.Nat.{ℕ, _<_}
+use mathlib.Core.Bool.{true}
+use mathlib.Core.Path.{_≡_, refl, ap, ap₂, _∙_, sym}
+use native.Mathlib.Omega.{arith}
+use borrow.Author.Tests.{not-true, not-false}
 use denote.Ref.{now}
-use Rattle.model.specs.Tree.{treeOf, isDirectory}
-use Rattle.model.specs.TableCheck.{mountHolds}
+use Rattle.model.specs.Tree.{treeOf, isDirectory, under}
+use Rattle.table_mounts.proofs.Laws.{besides-facts, besides-fails, besides-first, besides-under}
 use Rattle.table_mounts.proofs.mount_holds.Statement.{statement}
 use Rattle.table_mounts.proofs.mount_holds.Tie as tie
 
-mount-root-requires : tie.Need-mount-root-requires
-mount-root-requires c κs = search needs
-
-is-directory-requires : tie.Need-is-directory-requires
-is-directory-requires c κs = search needs
+holds-besides-requires : tie.Need-holds-besides-requires
+holds-besides-requires c κs = (c .before .before .before .before .pre .0, c .before .before .before .before .pre .3, c .before .before .before .before .pre .4)
 
 returns : tie.Need-returns
-unfolding mountHolds
-returns c = let t = treeOf (now (c .before .before .before .before .before .args .image)) in simp (ap (isDirectory t) (sym (c .before .before .mount-root .ensures .0)) ∙ sym (c .before .is-directory .ensures) ∙ not-true _ (c .if1 .taken))
-
-mount-zero-requires : tie.Need-mount-zero-requires
-mount-zero-requires c κs = search needs
+returns c = sym (besides-fails (treeOf (now (c .before .before .before .before .before .before .args .image))) (c .before .before .before .before .before .before .args .m) (sym (c .before .holds-besides .ensures) ∙ not-true _ (c .if1 .taken)))
 
 returns-2 : tie.Need-returns-2
-unfolding mountHolds
-returns-2 c = simp (ne-eqb (treeOf (now (c .before .before .before .before .before .before .before .args .image)) .mountZero (c .before .before .before .before .before .before .before .args .m)) 0 (λ e. c .if2 .taken (c .before .mount-zero .ensures .0 ∙ e)), and-false)
+returns-2 c = sym (besides-first (treeOf (now (c .before .before .before .before .before .before .before .args .image))) (c .before .before .before .before .before .before .before .args .m) (c .if2 .taken) (sym (c .before .before .holds-besides .ensures) ∙ not-false _ (c .before .if1 .left)))
 
-mount-hangs-requires : tie.Need-mount-hangs-requires
-mount-hangs-requires c κs = search needs
+mount-parent-requires : tie.Need-mount-parent-requires
+mount-parent-requires c κs = (c .before .before .before .before .before .before .before .pre .0, c .before .before .before .before .before .before .before .pre .3)
+
+mount-point-requires : tie.Need-mount-point-requires
+mount-point-requires c κs = (c .before .before .before .before .before .before .before .before .pre .0, c .before .before .before .before .before .before .before .before .pre .3)
+
+is-within-requires : tie.Need-is-within-requires
+is-within-requires c κs =
+    let t = treeOf (now (c .before .before .before .before .before .before .before .before .before .args .image)) in
+    let facts = besides-facts t (c .before .before .before .before .before .before .before .before .before .args .m) (omega arith) (sym (c .before .before .before .before .holds-besides .ensures) ∙ not-false _ (c .before .before .before .if1 .left)) in
+    (c .before .before .before .before .before .before .before .before .before .pre .0, c .before .before .before .before .before .before .before .before .before .pre .1, c .before .before .before .before .before .before .before .before .before .pre .2, omega (arith, facts .0, c .before .mount-parent .ensures .0, c .before .before .before .before .before .before .before .before .before .pre .3), ap (isDirectory t) (c .mount-point .ensures .0) ∙ facts .1)
 
 returns-3 : tie.Need-returns-3
-unfolding mountHolds
 returns-3 c =
-    let t = treeOf (now (c .before .before .before .before .before .before .before .before .args .image)) in
-    c .mount-hangs .ensures ∙ rw (ap (isDirectory t) (sym (c .before .before .before .before .before .mount-root .ensures .0)) ∙ sym (c .before .before .before .before .is-directory .ensures) ∙ not-false _ (c .before .before .before .if1 .left), eq-eqb (t .mountZero (c .before .before .before .before .before .before .before .before .args .m)) 0 (sym (c .before .before .mount-zero .ensures .0) ∙ c .before .if2 .left))
+    let t = treeOf (now (c .before .before .before .before .before .before .before .before .before .before .args .image)) in
+    sym (besides-under t (c .before .before .before .before .before .before .before .before .before .before .args .m) _ (omega arith) (sym (c .before .before .before .before .before .holds-besides .ensures) ∙ not-false _ (c .before .before .before .before .if1 .left))
+    (ap₂ (λ (n : ℕ) (p : ℕ). under t n (t .mountRoot p)) (sym (c .before .mount-point .ensures .0)) (sym (c .before .before .mount-parent .ensures .0)) ∙ sym (c .is-within .ensures)))
 
 pub mount-holds-spec : {M : Type 1} → statement M
 mount-holds-spec =
     tie.close
     (tie.spec
-    mount-root-requires
-    is-directory-requires
+    holds-besides-requires
     returns
-    mount-zero-requires
     returns-2
-    mount-hangs-requires
+    mount-parent-requires
+    mount-point-requires
+    is-within-requires
     returns-3)

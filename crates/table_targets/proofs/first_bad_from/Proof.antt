@@ -1,40 +1,58 @@
--- `table_targets::first_bad_from` meets its contract: the list that has 0 for each node is one in which no root is noted. Assumes nothing.
+-- `table_targets::first_bad_from` meets its contract: the lists that have 0 for each node are ones in which no root and no leap is noted.
+-- Assumes nothing.
 use borrow.Author.Needs.{needs}
+use mathlib.Core.Bool.{not}
+use mathlib.Core.Path.{sym, ap, _∙_}
+use native.Mathlib.Omega.{arith}
 use denote.Ref.{now}
 use Rattle.model.specs.Tree.{treeOf}
-use Rattle.table_targets.proofs.NearLaws.{rooted-none}
+use Rattle.model.specs.TableCheck.{magicTargetHolds}
+use Rattle.theorems.proofs.ByteLaws.{find-done}
+use Rattle.image.specs.Searches.{searchOf}
+use Rattle.table_under.proofs.NearLaws.{rooted-none}
+use Rattle.table_under.proofs.LeapLaws.{leaps-none}
 use Rattle.table_targets.proofs.first_bad_from.Statement.{statement}
 use Rattle.table_targets.proofs.first_bad_from.Tie as tie
 
-slice-aggregate-note-roots : tie.Need-slice-aggregate-note-roots
-slice-aggregate-note-roots c = search needs
+first-unseen-requires : tie.Need-first-unseen-requires
+first-unseen-requires c κs = (c .before .pre .0, c .before .pre .1, c .before .pre .2)
 
-note-roots-requires : tie.Need-note-roots-requires
-note-roots-requires c κs = (c .before .before .pre .0, c .before .before .pre .1, c .before .before .pre .2, rooted-none (treeOf (now (c .before .before .args .image))) 4096 (c .before .before .pre .0 .sized .few-nodes))
+returns : tie.Need-returns
+returns c = sym (ap searchOf (c .before .before .first-unseen .ensures .1 ∙ find-done (λ k. not (magicTargetHolds (treeOf (now (c .before .before .before .before .args .image))) k)) (c .before .before .first-unseen .result) _ (omega (arith, c .before .before .before .before .pre .0 .nodes-are))))
 
-slice-aggregate-pass-down : tie.Need-slice-aggregate-pass-down
-slice-aggregate-pass-down c = search needs
+slice-aggregate-chart : tie.Need-slice-aggregate-chart
+slice-aggregate-chart c = search needs
 
-pass-down-requires : tie.Need-pass-down-requires
-pass-down-requires c κs = search needs
+slice-aggregate-chart-2 : tie.Need-slice-aggregate-chart-2
+slice-aggregate-chart-2 c = search needs
+
+chart-requires : tie.Need-chart-requires
+chart-requires c κs =
+    let t = treeOf (now (c .before .before .before .before .before .before .args .image)) in
+    (c .before .before .before .before .before .before .pre .0, c .before .before .before .before .before .before .pre .1, rooted-none t 4096 (c .before .before .before .before .before .before .pre .0 .sized .few-nodes), leaps-none t 4096 (c .before .before .before .before .before .before .pre .0 .sized .few-nodes))
 
 slice-aggregate-first-failing : tie.Need-slice-aggregate-first-failing
 slice-aggregate-first-failing c = search needs
 
-first-failing-requires : tie.Need-first-failing-requires
-first-failing-requires c κs = search needs
+slice-aggregate-first-failing-2 : tie.Need-slice-aggregate-first-failing-2
+slice-aggregate-first-failing-2 c = search needs
 
-returns : tie.Need-returns
-returns c = search needs
+first-failing-requires : tie.Need-first-failing-requires
+first-failing-requires c κs = (c .before .before .before .before .before .before .before .before .before .before .before .pre .0, c .before .before .before .before .before .before .before .before .before .before .before .pre .1, c .before .before .before .before .chart .ensures .0, c .before .before .before .before .before .before .before .before .before .first-unseen .ensures .0)
+
+returns-2 : tie.Need-returns-2
+returns-2 c = c .first-failing .ensures ∙ ap searchOf (sym (c .before .before .before .before .before .before .before .before .before .before .first-unseen .ensures .1))
 
 pub first-bad-from-spec : {M : Type 1} → statement M
 first-bad-from-spec =
     tie.close
     (tie.spec
-    slice-aggregate-note-roots
-    note-roots-requires
-    slice-aggregate-pass-down
-    pass-down-requires
+    first-unseen-requires
+    returns
+    slice-aggregate-chart
+    slice-aggregate-chart-2
+    chart-requires
     slice-aggregate-first-failing
+    slice-aggregate-first-failing-2
     first-failing-requires
-    returns)
+    returns-2)

@@ -1,0 +1,49 @@
+-- `table_mounts::first_bad_mount` meets its contract. Assumes nothing.
+use borrow.Author.Needs.{needs}
+use mathlib.Core.Bool.{not}
+use mathlib.Core.Path.{sym, ap, _∙_}
+use native.Mathlib.Omega.{arith}
+use denote.Ref.{now}
+use Rattle.model.specs.Tree.{treeOf}
+use Rattle.model.specs.TableCheck.{mountHolds}
+use Rattle.theorems.proofs.ByteLaws.{find-done}
+use Rattle.image.specs.Searches.{searchOf}
+use Rattle.table_mounts.proofs.first_bad_mount.Statement.{statement}
+use Rattle.table_mounts.proofs.first_bad_mount.Tie as tie
+
+first-bad-of-few-requires : tie.Need-first-bad-of-few-requires
+first-bad-of-few-requires c κs = (c .before .before .before .pre .0, c .before .before .before .pre .1)
+
+returns : tie.Need-returns
+returns c = c .first-bad-of-few .ensures
+
+slice-aggregate-first-unseen : tie.Need-slice-aggregate-first-unseen
+slice-aggregate-first-unseen c = search needs
+
+first-unseen-requires : tie.Need-first-unseen-requires
+first-unseen-requires c κs = (c .before .before .before .before .pre .0, c .before .before .before .before .pre .1)
+
+returns-2 : tie.Need-returns-2
+returns-2 c = sym (ap searchOf (c .before .before .before .first-unseen .ensures .1 ∙ find-done (λ k. not (mountHolds (treeOf (now (c .before .before .before .before .before .before .before .before .args .image))) k)) (c .before .before .before .first-unseen .result) _ (omega (arith, c .before .before .before .before .before .before .before .before .pre .0 .mounts-are))))
+
+slice-aggregate-first-bad-from : tie.Need-slice-aggregate-first-bad-from
+slice-aggregate-first-bad-from c = search needs
+
+first-bad-from-requires : tie.Need-first-bad-from-requires
+first-bad-from-requires c κs = (c .before .before .before .before .before .before .before .before .before .pre .0, c .before .before .before .before .before .before .before .before .before .pre .1, c .before .before .before .before .first-unseen .ensures .0, c .before .before .before .before .first-unseen .ensures .2)
+
+returns-3 : tie.Need-returns-3
+returns-3 c = c .before .first-bad-from .ensures ∙ ap searchOf (sym (c .before .before .before .before .before .before .first-unseen .ensures .1))
+
+pub first-bad-mount-spec : {M : Type 1} → statement M
+first-bad-mount-spec =
+    tie.close
+    (tie.spec
+    first-bad-of-few-requires
+    returns
+    slice-aggregate-first-unseen
+    first-unseen-requires
+    returns-2
+    slice-aggregate-first-bad-from
+    first-bad-from-requires
+    returns-3)

@@ -1,0 +1,40 @@
+-- `table_under::note_root` meets its contract. Assumes nothing.
+use borrow.Author.Needs.{needs}
+use Prim.Native.Nat.{_+_}
+use mathlib.Core.Path.{refl}
+use native.Mathlib.Omega.{arith}
+use denote.Ref.{now}
+use lib.ListN.{length-set}
+use Rattle.model.specs.Tree.{treeOf}
+use Rattle.table_under.proofs.NearLaws.{rooted-more, rooted-past}
+use Rattle.table_under.proofs.note_root.Statement.{statement}
+use Rattle.table_under.proofs.note_root.Tie as tie
+
+mount-root-requires : tie.Need-mount-root-requires
+mount-root-requires c κs = search needs
+
+add-near : tie.Need-add-near
+add-near c = search needs
+
+cast-near : tie.Need-cast-near
+cast-near c = omega (arith, c .before .before .before .before .before .pre .0 .sized .few-nodes, c .before .before .before .before .before .pre .0 .nodes-are)
+
+mul-near : tie.Need-mul-near
+mul-near c = omega (arith, c .before .before .mount-root .ensures .1)
+
+slice-write-near : tie.Need-slice-write-near
+slice-write-near c = omega (arith, c .before .before .before .before .before .pre .2 .room, c .before .before .before .before .before .pre .0 .nodes-are)
+
+same-length : tie.Need-same-length
+same-length c = search needs
+
+returns : tie.Need-returns
+returns c = (rooted-more (treeOf (now (c .before .before .before .before .before .args .image))) (c .before .before .before .before .before .args .m) (c .before .before .mount-root .result) (now (c .before .before .before .before .before .args .near)) (c .before .before .before .before .before .pre .2) (c .before .before .mount-root .ensures .0) (omega (arith, c .before .before .before .before .before .pre .2 .room, c .before .before .before .before .before .pre .0 .nodes-are)), length-set (now (c .before .before .before .before .before .args .near)) (c .before .before .mount-root .result) (c .before .before .mount-root .result + 1))
+
+returns-2 : tie.Need-returns-2
+returns-2 c = (rooted-past (treeOf (now (c .before .before .before .before .before .args .image))) (c .before .before .before .before .before .args .m) (c .before .before .mount-root .result) (now (c .before .before .before .before .before .args .near)) (c .before .before .before .before .before .pre .2) (c .before .before .mount-root .ensures .0) (omega (arith, c .before .before .before .before .before .pre .0 .nodes-are)), refl)
+
+pub note-root-spec : {M : Type 1} → statement M
+note-root-spec =
+    tie.close
+    (tie.spec mount-root-requires add-near cast-near mul-near slice-write-near same-length returns returns-2)

@@ -1,0 +1,43 @@
+-- `table_under::note_roots` meets its contract. The loop's invariant: the roots of the mounts passed are noted. Assumes nothing.
+use borrow.Author.Needs.{needs}
+use Prim.Native.Nat.{ℕ, _-_, _≤_}
+use mathlib.Core.Path.{_≡_, refl, subst, _∙_}
+use native.Mathlib.Omega.{arith}
+use denote.Ref.{now}
+use lib.ListN.{length}
+use Rattle.model.specs.Tree.{treeOf}
+use Rattle.table_under.specs.Roots.{Rooted}
+use Rattle.table_under.proofs.note_roots.Statement.{statement}
+use Rattle.table_under.proofs.note_roots.Tie as tie
+
+abbrev Inv-loop : tie.InvT-loop
+Inv-loop image c near₀ end m₀ near m = (end ≡ treeOf image .mounts) × (m ≤ end) × Rooted (treeOf image) m near × (length near ≡ length near₀)
+
+abbrev μ-loop : tie.MeasureT-loop
+μ-loop image c near₀ end m₀ near m = end - m
+
+loop-holds : tie.Need-loop-holds Inv-loop μ-loop
+loop-holds c = (c .before .before .pre .0 .mounts-are, omega arith, c .before .before .pre .1, refl)
+
+note-root-requires : tie.Need-note-root-requires Inv-loop μ-loop
+note-root-requires c κs = (c .before .before .before .before .before .pre .0, omega arith, c .before .before .loop .inv .2)
+
+add-m : tie.Need-add-m Inv-loop μ-loop
+add-m c = omega arith
+
+loop-less : tie.Need-loop-less Inv-loop μ-loop
+loop-less c = omega arith
+
+loop-again : tie.Need-loop-again Inv-loop μ-loop
+loop-again c = (c .before .before .before .before .before .loop .inv .0, omega arith, c .before .before .note-root .ensures .0, c .before .before .note-root .ensures .1 ∙ c .before .before .before .before .before .loop .inv .3)
+
+same-length : tie.Need-same-length Inv-loop μ-loop
+same-length c = search needs
+
+returns : tie.Need-returns Inv-loop μ-loop
+returns c = (subst (λ (m : ℕ). Rooted (treeOf (now (c .before .before .before .before .args .image))) m (c .before .loop .near)) (omega arith) (c .before .loop .inv .2), c .before .loop .inv .3)
+
+pub note-roots-spec : {M : Type 1} → statement M
+note-roots-spec =
+    tie.close
+    (tie.spec Inv-loop μ-loop loop-holds note-root-requires add-m loop-less loop-again same-length returns)
