@@ -5,9 +5,9 @@
 //! used, and follows parents for each mount, so a table that shares text or
 //! nests deep costs it more than its size. Here the text is marked once, so that
 //! a part of it is known to be clean in a few steps, and the forest of parents
-//! is numbered once, so that "under" is one comparison. Both are done only if
-//! the plain way has taken its share of steps, which on small and well-meant
-//! tables it never does. Names are compared as slices.
+//! is numbered once, so that "under" is one comparison. Both are done only once
+//! the plain way has taken some steps, so that small tables pay for neither.
+//! Names are compared as slices, of at most 255 bytes.
 //!
 //! Nothing is unsafe, and nothing is allocated but the marks and the numbers,
 //! once a check. The verdict is plain's for every input.
@@ -112,7 +112,7 @@ impl<'a> Table<'a> {
     }
 
     /// Rule 4; here and below the error is the record that breaks the rule.
-    #[inline(never)]
+    #[inline(never)] // one rule's loop would cost the others registers
     fn check_nodes(&self) -> Result<(), usize> {
         let mut bodies = Clean::<false>::new(self.text);
         let mut entries = 0_u64;
