@@ -26,14 +26,24 @@ big32-at-requires-2 c κs = omega (arith, c .before .deciding .ensures .within)
 
 returns-2 : tie.Need-returns-2
 returns-2 c =
-    deciding-before 4 (now (c .before .before .before .before .before .before .before .before .args .a)) (now (c .before .before .before .before .before .before .before .before .args .b)) (λ k. omega (arith, c .before .before .before .before .before .before .before .shared-slice-known .given k)) (λ k. omega (arith, c .before .before .before .before .before .before .shared-slice-known2 .given k)) _
-    (c .before .before .before .deciding .result) (c .before .before .before .deciding .ensures) (c .before .before .big32-at .result) (c .before .big32-at2 .result) (c .before .before .big32-at .ensures .0) (c .before .big32-at2 .ensures .0)
+    let at = c .before .before .before .deciding in
+    let x = c .before .before .big32-at in
+    let y = c .before .big32-at2 in
+    deciding-before 4 (now (c .before .before .before .before .before .before .before .before .args .a)) (now (c .before .before .before .before .before .before .before .before .args .b))
+    (λ k. omega (arith, c .before .before .before .before .before .before .before .shared-slice-known .given k))
+    (λ k. omega (arith, c .before .before .before .before .before .before .shared-slice-known2 .given k)) _
+    (at .result) (at .ensures) (x .result) (y .result) (x .ensures .0) (y .ensures .0)
     (omega arith) (omega arith) (c .if2 .taken)
 
 returns-3 : tie.Need-returns-3
 returns-3 c =
-    deciding-begun 4 (now (c .before .before .before .before .before .before .before .before .args .a)) (now (c .before .before .before .before .before .before .before .before .args .b)) (λ k. omega (arith, c .before .before .before .before .before .before .before .shared-slice-known .given k)) (λ k. omega (arith, c .before .before .before .before .before .before .shared-slice-known2 .given k)) _
-    (c .before .before .before .deciding .result) (c .before .before .before .deciding .ensures) (c .before .before .big32-at .result) (c .before .big32-at2 .result) (c .before .before .big32-at .ensures .0) (c .before .big32-at2 .ensures .0)
+    let at = c .before .before .before .deciding in
+    let x = c .before .before .big32-at in
+    let y = c .before .big32-at2 in
+    deciding-begun 4 (now (c .before .before .before .before .before .before .before .before .args .a)) (now (c .before .before .before .before .before .before .before .before .args .b))
+    (λ k. omega (arith, c .before .before .before .before .before .before .before .shared-slice-known .given k))
+    (λ k. omega (arith, c .before .before .before .before .before .before .shared-slice-known2 .given k)) _
+    (at .result) (at .ensures) (x .result) (y .result) (x .ensures .0) (y .ensures .0)
     (omega arith) (omega arith) (λ h. omega (arith, c .before .before .before .before .before .shorter .ensures .2 (omega arith))) (c .if2 .left)
 
 pub comes-before-spec : {M : Type 1} → statement M

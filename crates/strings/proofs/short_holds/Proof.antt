@@ -23,7 +23,10 @@ shared-slice-read-if1 : tie.Need-shared-slice-read-if1 Inv-loop μ-loop
 shared-slice-read-if1 c = omega arith
 
 returns : tie.Need-returns Inv-loop μ-loop
-returns c = let a = c .before .before .before .before .args in sym (seen-hit (a .b) (now (a .s)) (c .before .before .before .loop .i) false (c .before .before .loop-test .taken) (c .before .before .before .loop .inv .1) (c .if1 .taken))
+returns c =
+    let a = c .before .before .before .before .args in
+    let l = c .before .before .before .loop in
+    sym (seen-hit (a .b) (now (a .s)) (l .i) false (c .before .before .loop-test .taken) (l .inv .1) (c .if1 .taken))
 
 add-i : tie.Need-add-i Inv-loop μ-loop
 add-i c = omega arith
@@ -32,7 +35,10 @@ loop-less : tie.Need-loop-less Inv-loop μ-loop
 loop-less c = omega arith
 
 loop-again : tie.Need-loop-again Inv-loop μ-loop
-loop-again c = let a = c .before .before .before .before .args in (omega arith, seen-miss (a .b) (now (a .s)) (c .before .before .before .loop .i) false (c .before .before .loop-test .taken) (c .before .before .before .loop .inv .1) (c .if1 .left))
+loop-again c =
+    let a = c .before .before .before .before .args in
+    let l = c .before .before .before .loop in
+    (omega arith, seen-miss (a .b) (now (a .s)) (l .i) false (c .before .before .loop-test .taken) (l .inv .1) (c .if1 .left))
 
 returns-2 : tie.Need-returns-2 Inv-loop μ-loop
 returns-2 c = let a = c .before .before .args in seen-all (a .b) (now (a .s)) (c .before .loop .i) false (c .loop-test .left) (c .before .loop .inv .1)

@@ -38,7 +38,9 @@ node-kind-requires : tie.Need-node-kind-requires Inv-loop μ-loop
 node-kind-requires c κs = (c .before .before .before .before .pre .0 .sized, omega arith)
 
 node-holds-requires : tie.Need-node-holds-requires Inv-loop μ-loop
-node-holds-requires c κs = (c .before .before .before .before .before .pre .0, omega arith, c .before .before .before .before .before .pre .1, c .node-kind .ensures .0, c .before .before .loop .inv .2, c .before .before .before .text-clean .ensures)
+node-holds-requires c κs =
+    let p = c .before .before .before .before .before .pre in
+    (p .0, omega arith, p .1, c .node-kind .ensures .0, c .before .before .loop .inv .2, c .before .before .before .text-clean .ensures)
 
 returns : tie.Need-returns Inv-loop μ-loop
 unfolding rule4

@@ -2,7 +2,7 @@
 use borrow.Author.Needs.{needs}
 use Prim.Native.Nat.{_+_}
 use mathlib.Core.Bool.{not, and-false}
-use mathlib.Core.Path.{ap, _∙_, sym}
+use mathlib.Core.Path.{_≡_, ap, _∙_, sym}
 use native.Mathlib.Omega.{arith}
 use borrow.Author.Tests.{eq-eqb, ne-eqb, le-leb, lt-leb}
 use denote.Ref.{now}
@@ -44,9 +44,12 @@ returns-4 c = let t = treeOf (now (c .before .before .before .before .before .be
 returns-5 : tie.Need-returns-5
 unfolding symlinkHolds
 returns-5 c =
-    let t = treeOf (now (c .before .before .before .before .before .before .before .before .before .args .image)) in
+    let s = now (c .before .before .before .before .before .before .before .before .before .args .image) in
+    let t = treeOf s in
     let n = c .before .before .before .before .before .before .before .before .before .args .n in
-    rw (eq-eqb (t .parent n) 0 (sym (c .before .before .before .before .before .before .node-parent .ensures .0) ∙ c .before .before .before .before .before .if1 .left), le-leb (t .first n + t .count n) (t .textLength) (omega arith), le-leb 1 (t .count n) (omega arith), le-leb (t .count n) 4095 (omega arith), body-no-zero (now (c .before .before .before .before .before .before .before .before .before .args .image)) n (c .before .before .before .before .before .before .before .before .before .pre .3 (c .if5 .taken)))
+    let top : t .parent n ≡ 0 = sym (c .before .before .before .before .before .before .node-parent .ensures .0) ∙ c .before .before .before .before .before .if1 .left in
+    let zero = body-no-zero s n (c .before .before .before .before .before .before .before .before .before .pre .3 (c .if5 .taken)) in
+    rw (eq-eqb (t .parent n) 0 top, le-leb (t .first n + t .count n) (t .textLength) (omega arith), le-leb 1 (t .count n) (omega arith), le-leb (t .count n) 4095 (omega arith), zero)
 
 body-requires : tie.Need-body-requires
 body-requires c κs = search needs
@@ -59,8 +62,9 @@ unfolding symlinkHolds
 returns-6 c =
     let t = treeOf (now (c .before .before .before .before .before .before .before .before .before .before .before .args .image)) in
     let n = c .before .before .before .before .before .before .before .before .before .before .before .args .n in
+    let top : t .parent n ≡ 0 = sym (c .before .before .before .before .before .before .before .before .node-parent .ensures .0) ∙ c .before .before .before .before .before .before .before .if1 .left in
     ap not (c .holds-byte .ensures ∙ ap (contains 0) (c .before .body .ensures))
-    ∙ rw (eq-eqb (t .parent n) 0 (sym (c .before .before .before .before .before .before .before .before .node-parent .ensures .0) ∙ c .before .before .before .before .before .before .before .if1 .left), le-leb (t .first n + t .count n) (t .textLength) (omega arith), le-leb 1 (t .count n) (omega arith), le-leb (t .count n) 4095 (omega arith))
+    ∙ rw (eq-eqb (t .parent n) 0 top, le-leb (t .first n + t .count n) (t .textLength) (omega arith), le-leb 1 (t .count n) (omega arith), le-leb (t .count n) 4095 (omega arith))
 
 pub symlink-holds-spec : {M : Type 1} → statement M
 symlink-holds-spec =

@@ -27,7 +27,9 @@ holds-from-requires : tie.Need-holds-from-requires
 holds-from-requires c κs = omega (arith, c .text-at .ensures .1)
 
 returns-2 : tie.Need-returns-2
-returns-2 c = λ e. ap (λ (k : ℕ). contains 0 (drop k (now (c .before .before .before .before .before .args .image)))) (sym (c .before .text-at .ensures .0)) ∙ sym (c .holds-from .ensures) ∙ not-true _ e
+returns-2 c = λ e.
+    let s = now (c .before .before .before .before .before .args .image) in
+    ap (λ (k : ℕ). contains 0 (drop k s)) (sym (c .before .text-at .ensures .0)) ∙ sym (c .holds-from .ensures) ∙ not-true _ e
 
 pub text-clean-spec : {M : Type 1} → statement M
 text-clean-spec = tie.close (tie.spec mul-if1 add-if1 returns text-at-requires holds-from-requires returns-2)

@@ -30,7 +30,10 @@ add-result c = omega (arith, c .before .before .before .deciding-eight .ensures 
 
 returns-3 : tie.Need-returns-3
 returns-3 c =
-    upper-half (λ k. omega (arith, c .before .before .before .before .before .before .shared-slice-known .given k)) (λ k. omega (arith, c .before .before .before .before .before .shared-slice-known2 .given k)) (c .before .before .before .deciding-eight .ensures) (omega arith)
+    upper-half
+    (λ k. omega (arith, c .before .before .before .before .before .before .shared-slice-known .given k))
+    (λ k. omega (arith, c .before .before .before .before .before .shared-slice-known2 .given k))
+    (c .before .before .before .deciding-eight .ensures) (omega arith)
     (sym (c .before .before .u32-at .ensures .0) ∙ c .if2 .left ∙ c .before .u32-at2 .ensures .0)
 
 pub deciding-spec : {M : Type 1} → statement M

@@ -37,9 +37,10 @@ name-requires c κs = search needs
 
 holds-forbidden-requires : tie.Need-holds-forbidden-requires
 holds-forbidden-requires c κs = λ k.
-    let s = now (c .before .before .before .before .before .before .before .args .image) in
+    let a = c .before .before .before .before .before .before .before .args in
+    let h = c .before .before .before .before .before .before .before .pre .3 k in
     let n = c .name .ensures in
-    (ap (contains 0) n ∙ name-clean 0 s (c .before .before .before .before .before .before .before .args .e) (c .before .before .before .before .before .before .before .pre .3 k .0), ap (contains 47) n ∙ name-clean 47 s (c .before .before .before .before .before .before .before .args .e) (c .before .before .before .before .before .before .before .pre .3 k .1))
+    (ap (contains 0) n ∙ name-clean 0 (now (a .image)) (a .e) (h .0), ap (contains 47) n ∙ name-clean 47 (now (a .image)) (a .e) (h .1))
 
 returns-4 : tie.Need-returns-4
 returns-4 c = let t = treeOf (now (c .before .before .before .before .before .before .before .before .before .args .image)) in sym (name-test t (c .before .before .before .before .before .before .before .before .before .args .e) ∙ simp (ap forbids (sym (c .before .before .name .ensures)) ∙ sym (c .before .holds-forbidden .ensures) ∙ c .if4 .taken, and-false))

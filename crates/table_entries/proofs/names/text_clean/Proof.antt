@@ -33,10 +33,12 @@ holds-from-requires-2 : tie.Need-holds-from-requires-2
 holds-from-requires-2 c κs = omega (arith, c .before .before .text-at .ensures .1)
 
 returns-3 : tie.Need-returns-3
-returns-3 c = λ e. (
-  ap (λ (k : ℕ). contains 0 (drop k (now (c .before .before .before .before .before .before .before .args .image)))) (sym (c .before .before .before .text-at .ensures .0)) ∙ sym (c .before .before .holds-from .ensures) ∙ c .before .if2 .left,
-  ap (λ (k : ℕ). contains 47 (drop k (now (c .before .before .before .before .before .before .before .args .image)))) (sym (c .before .before .before .text-at .ensures .0)) ∙ sym (c .holds-from2 .ensures) ∙ not-true _ e,
-)
+returns-3 c = λ e.
+    let s = now (c .before .before .before .before .before .before .before .args .image) in
+    let at = sym (c .before .before .before .text-at .ensures .0) in (
+      ap (λ (k : ℕ). contains 0 (drop k s)) at ∙ sym (c .before .before .holds-from .ensures) ∙ c .before .if2 .left,
+      ap (λ (k : ℕ). contains 47 (drop k s)) at ∙ sym (c .holds-from2 .ensures) ∙ not-true _ e,
+    )
 
 pub text-clean-spec : {M : Type 1} → statement M
 text-clean-spec =
