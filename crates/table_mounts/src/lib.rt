@@ -158,7 +158,8 @@ fn steps_left(image: &[u8], c: Counts, points: &[u8], m: usize, steps: usize) ->
 // needlessly only costs a search.
 fn first_unseen(image: &[u8], c: Counts, points: &mut [u8]) -> usize
     requires { ⌜ Counted (now image) c × NodesHold (treeOf (now image)) ⌝ }
-    ensures { λ r. ⌜ (r ≤ treeOf (now (image .entry)) .mounts) × (rule6 (treeOf (now (image .entry))) ≡ badFrom (treeOf (now (image .entry))) r) × Noted (treeOf (now (image .entry))) r (now (points .exit)) × (length (now (points .exit)) ≡ length (now (points .entry))) ⌝ }
+    ensures { λ r. ⌜ (r ≤ treeOf (now (image .entry)) .mounts) × (rule6 (treeOf (now (image .entry))) ≡ badFrom (treeOf (now (image .entry))) r)
+        × Noted (treeOf (now (image .entry))) r (now (points .exit)) × (length (now (points .exit)) ≡ length (now (points .entry))) ⌝ }
 {
     let end = c.mounts;
     let mut steps = 2 * c.nodes;
@@ -182,7 +183,8 @@ fn mount_holds(
     leaps: &[u16],
     m: usize,
 ) -> bool
-    requires { ⌜ Counted (now image) c × NodesHold (treeOf (now image)) × Charted (treeOf (now image)) (now near) (now leaps) × (m < treeOf (now image) .mounts) × Noted (treeOf (now image)) m (now points) ⌝ }
+    requires { ⌜ Counted (now image) c × NodesHold (treeOf (now image)) × Charted (treeOf (now image)) (now near) (now leaps) × (m < treeOf (now image) .mounts)
+        × Noted (treeOf (now image)) m (now points) ⌝ }
     ensures { λ r. ⌜ r ≡ mountHolds (treeOf (now (image .entry))) m ⌝ }
 {
     if !holds_besides(image, c, points, m) {
@@ -203,7 +205,8 @@ fn first_failing(
     leaps: &[u16],
     from: usize,
 ) -> Search
-    requires { ⌜ Counted (now image) c × NodesHold (treeOf (now image)) × Charted (treeOf (now image)) (now near) (now leaps) × (from ≤ treeOf (now image) .mounts) × Noted (treeOf (now image)) from (now points) ⌝ }
+    requires { ⌜ Counted (now image) c × NodesHold (treeOf (now image)) × Charted (treeOf (now image)) (now near) (now leaps) × (from ≤ treeOf (now image) .mounts)
+        × Noted (treeOf (now image)) from (now points) ⌝ }
     ensures { λ r. ⌜ r ≡ searchOf (badFrom (treeOf (now (image .entry))) from) ⌝ }
 {
     let end = c.mounts;

@@ -105,15 +105,15 @@ fn first_unseen(image: &[u8], c: Counts, from: usize, steps: usize) -> usize
 {
     let end = c.nodes;
     let mut left = steps;
-    let mut n = from;
-    while n < end {
-        left = steps_left(image, c, n, left);
+    let mut k = from;
+    while k < end {
+        left = steps_left(image, c, k, left);
         if left == 0 {
-            return n;
+            return k;
         }
-        n += 1;
+        k += 1;
     }
-    n
+    k
 }
 
 fn target_holds(image: &[u8], c: Counts, near: &[u16], leaps: &[u16], n: usize) -> bool

@@ -111,7 +111,8 @@ fn root_above(image: &[u8], near: &[u16], n: usize) -> usize
 
 // The root above, or the one two leaps further up if both are of one length: so any root is a few leaps away.
 fn leap_of(image: &[u8], near: &[u16], leaps: &[u16], depths: &[u16], n: usize) -> usize
-    requires { ⌜ Sized (now image) × NodesHold (treeOf (now image)) × Charted (treeOf (now image)) (now near) (now leaps) × (treeOf (now image) .nodes ≤ length (now depths)) × (isDirectory (treeOf (now image)) n ≡ true) ⌝ }
+    requires { ⌜ Sized (now image) × NodesHold (treeOf (now image)) × Charted (treeOf (now image)) (now near) (now leaps)
+        × (treeOf (now image) .nodes ≤ length (now depths)) × (isDirectory (treeOf (now image)) n ≡ true) ⌝ }
     ensures { λ r. ⌜ Leap (treeOf (now (image .entry))) n r × (r < 65536) ⌝ }
 {
     let up = root_above(image, near, n);
@@ -134,7 +135,8 @@ fn leap_of(image: &[u8], near: &[u16], leaps: &[u16], depths: &[u16], n: usize) 
 
 // How many roots are above. Tables have 256 mounts at most, so the rest changes no number.
 fn depth_of(image: &[u8], near: &[u16], depths: &[u16], n: usize) -> u16
-    requires { ⌜ Sized (now image) × NodesHold (treeOf (now image)) × Filled (treeOf (now image)) (treeOf (now image) .nodes) (now near) × (treeOf (now image) .nodes ≤ length (now depths)) × (isDirectory (treeOf (now image)) n ≡ true) ⌝ }
+    requires { ⌜ Sized (now image) × NodesHold (treeOf (now image)) × Filled (treeOf (now image)) (treeOf (now image) .nodes) (now near)
+        × (treeOf (now image) .nodes ≤ length (now depths)) × (isDirectory (treeOf (now image)) n ≡ true) ⌝ }
 {
     let up = root_above(image, near, n);
     if up == 0 {
@@ -145,8 +147,10 @@ fn depth_of(image: &[u8], near: &[u16], depths: &[u16], n: usize) -> u16
 
 // Gives a root its leap.
 fn note_leap(image: &[u8], near: &[u16], leaps: &mut [u16], depths: &mut [u16], n: usize)
-    requires { ⌜ Sized (now image) × NodesHold (treeOf (now image)) × Charted (treeOf (now image)) (now near) (now leaps) × (treeOf (now image) .nodes ≤ length (now depths)) × (n < treeOf (now image) .nodes) ⌝ }
-    ensures { λ _. ⌜ Charted (treeOf (now (image .entry))) (now (near .entry)) (now (leaps .exit)) × (length (now (leaps .exit)) ≡ length (now (leaps .entry))) × (length (now (depths .exit)) ≡ length (now (depths .entry))) ⌝ }
+    requires { ⌜ Sized (now image) × NodesHold (treeOf (now image)) × Charted (treeOf (now image)) (now near) (now leaps)
+        × (treeOf (now image) .nodes ≤ length (now depths)) × (n < treeOf (now image) .nodes) ⌝ }
+    ensures { λ _. ⌜ Charted (treeOf (now (image .entry))) (now (near .entry)) (now (leaps .exit)) × (length (now (leaps .exit)) ≡ length (now (leaps .entry)))
+        × (length (now (depths .exit)) ≡ length (now (depths .entry))) ⌝ }
 {
     if wide(near[n]) != n + 1 {
         return;
@@ -173,7 +177,8 @@ fn fill_leaps(image: &[u8], c: Counts, near: &[u16], leaps: &mut [u16], depths: 
 // What the exact way goes by, in arrays that are all 0 at first.
 pub fn chart(image: &[u8], c: Counts, near: &mut [u16], leaps: &mut [u16])
     requires { ⌜ Counted (now image) c × NodesHold (treeOf (now image)) × Rooted (treeOf (now image)) 0 (now near) × Leaps (treeOf (now image)) (now leaps) ⌝ }
-    ensures { λ _. ⌜ Charted (treeOf (now (image .entry))) (now (near .exit)) (now (leaps .exit)) × (length (now (near .exit)) ≡ length (now (near .entry))) × (length (now (leaps .exit)) ≡ length (now (leaps .entry))) ⌝ }
+    ensures { λ _. ⌜ Charted (treeOf (now (image .entry))) (now (near .exit)) (now (leaps .exit)) × (length (now (near .exit)) ≡ length (now (near .entry)))
+        × (length (now (leaps .exit)) ≡ length (now (leaps .entry))) ⌝ }
 {
     let mut depths = [0u16; NODES];
     note_roots(image, c, near);
@@ -184,7 +189,8 @@ pub fn chart(image: &[u8], c: Counts, near: &mut [u16], leaps: &mut [u16])
 // One step of the way up to a mount's root, from the directory k - 1, which is above the root's number: its leap if that is not too far,
 // else to the nearest root above.
 fn step_up(image: &[u8], near: &[u16], leaps: &[u16], mount: usize, root: usize, k: usize) -> usize
-    requires { ⌜ Sized (now image) × NodesHold (treeOf (now image)) × Charted (treeOf (now image)) (now near) (now leaps) × (mount < treeOf (now image) .mounts) × (root ≡ treeOf (now image) .mountRoot mount) × (root + 1 < k) × (isDirectory (treeOf (now image)) (k - 1) ≡ true) ⌝ }
+    requires { ⌜ Sized (now image) × NodesHold (treeOf (now image)) × Charted (treeOf (now image)) (now near) (now leaps) × (mount < treeOf (now image) .mounts)
+        × (root ≡ treeOf (now image) .mountRoot mount) × (root + 1 < k) × (isDirectory (treeOf (now image)) (k - 1) ≡ true) ⌝ }
     ensures { λ r. ⌜ (r < k) × Reached (treeOf (now (image .entry))) (k - 1) (treeOf (now (image .entry)) .mountRoot mount) r ⌝ }
 {
     let leap = wide(leaps[k - 1]);
@@ -207,7 +213,8 @@ pub fn is_within(
     mount: usize,
     target: usize,
 ) -> bool
-    requires { ⌜ Counted (now image) c × NodesHold (treeOf (now image)) × Charted (treeOf (now image)) (now near) (now leaps) × (mount < treeOf (now image) .mounts) × (isDirectory (treeOf (now image)) target ≡ true) ⌝ }
+    requires { ⌜ Counted (now image) c × NodesHold (treeOf (now image)) × Charted (treeOf (now image)) (now near) (now leaps) × (mount < treeOf (now image) .mounts)
+        × (isDirectory (treeOf (now image)) target ≡ true) ⌝ }
     ensures { λ r. ⌜ r ≡ under (treeOf (now (image .entry))) target (treeOf (now (image .entry)) .mountRoot mount) ⌝ }
 {
     let root = mount_root(image, c, mount);

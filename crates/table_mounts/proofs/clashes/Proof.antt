@@ -15,7 +15,11 @@ shared-slice-read-if2 : tie.Need-shared-slice-read-if2
 shared-slice-read-if2 c = omega (arith, c .before .slot .ensures .1)
 
 returns : tie.Need-returns
-returns c = sym (alone (treeOf (now (c .before .before .before .before .before .before .args .image))) (c .before .before .before .before .before .before .args .m) (now (c .before .before .before .before .before .before .args .points)) (c .before .before .before .before .before .before .pre .2) (c .before .before .slot .result) (c .before .before .slot .ensures) (c .before .before .before .if1 .taken) (c .if2 .taken))
+returns c =
+    let a = c .before .before .before .before .before .before .args in
+    let p = c .before .before .before .before .before .before .pre in
+    let slot = c .before .before .slot in
+    sym (alone (treeOf (now (a .image))) (a .m) (now (a .points)) (p .2) (slot .result) (slot .ensures) (c .before .before .before .if1 .taken) (c .if2 .taken))
 
 shares-point-requires : tie.Need-shares-point-requires
 shares-point-requires c κs = search needs

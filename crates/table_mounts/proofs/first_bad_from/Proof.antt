@@ -15,8 +15,10 @@ slice-aggregate-chart-2 c = search needs
 
 chart-requires : tie.Need-chart-requires
 chart-requires c κs =
-    let t = treeOf (now (c .before .before .before .before .args .image)) in
-    (c .before .before .before .before .pre .0, c .before .before .before .before .pre .1, rooted-none t 4096 (c .before .before .before .before .pre .0 .sized .few-nodes), leaps-none t 4096 (c .before .before .before .before .pre .0 .sized .few-nodes))
+    let a = c .before .before .before .before .args in
+    let p = c .before .before .before .before .pre in
+    let t = treeOf (now (a .image)) in
+    (p .0, p .1, rooted-none t 4096 (p .0 .sized .few-nodes), leaps-none t 4096 (p .0 .sized .few-nodes))
 
 slice-aggregate-first-failing : tie.Need-slice-aggregate-first-failing
 slice-aggregate-first-failing c = search needs
@@ -25,7 +27,10 @@ slice-aggregate-first-failing-2 : tie.Need-slice-aggregate-first-failing-2
 slice-aggregate-first-failing-2 c = search needs
 
 first-failing-requires : tie.Need-first-failing-requires
-first-failing-requires c κs = (c .before .before .before .before .before .before .before .before .before .before .pre .0, c .before .before .before .before .before .before .before .before .before .before .pre .1, c .before .before .before .before .before .chart .ensures .0, c .before .before .before .before .before .before .before .before .before .before .pre .2, c .before .before .before .before .before .before .before .before .before .before .pre .3)
+first-failing-requires c κs =
+    let p = c .before .before .before .before .before .before .before .before .before .before .pre in
+    let chart = c .before .before .before .before .before .chart in
+    (p .0, p .1, chart .ensures .0, p .2, p .3)
 
 same-length : tie.Need-same-length
 same-length c = search needs

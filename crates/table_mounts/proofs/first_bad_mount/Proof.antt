@@ -24,13 +24,20 @@ first-unseen-requires : tie.Need-first-unseen-requires
 first-unseen-requires c κs = (c .before .before .before .before .pre .0, c .before .before .before .before .pre .1)
 
 returns-2 : tie.Need-returns-2
-returns-2 c = sym (ap searchOf (c .before .before .before .first-unseen .ensures .1 ∙ find-done (λ k. not (mountHolds (treeOf (now (c .before .before .before .before .before .before .before .before .args .image))) k)) (c .before .before .before .first-unseen .result) _ (omega (arith, c .before .before .before .before .before .before .before .before .pre .0 .mounts-are))))
+returns-2 c =
+    let a = c .before .before .before .before .before .before .before .before .args in
+    let p = c .before .before .before .before .before .before .before .before .pre in
+    let first-unseen = c .before .before .before .first-unseen in
+    sym (ap searchOf (first-unseen .ensures .1 ∙ find-done (λ k. not (mountHolds (treeOf (now (a .image))) k)) (first-unseen .result) _ (omega (arith, p .0 .mounts-are))))
 
 slice-aggregate-first-bad-from : tie.Need-slice-aggregate-first-bad-from
 slice-aggregate-first-bad-from c = search needs
 
 first-bad-from-requires : tie.Need-first-bad-from-requires
-first-bad-from-requires c κs = (c .before .before .before .before .before .before .before .before .before .pre .0, c .before .before .before .before .before .before .before .before .before .pre .1, c .before .before .before .before .first-unseen .ensures .0, c .before .before .before .before .first-unseen .ensures .2)
+first-bad-from-requires c κs =
+    let p = c .before .before .before .before .before .before .before .before .before .pre in
+    let first-unseen = c .before .before .before .before .first-unseen in
+    (p .0, p .1, first-unseen .ensures .0, first-unseen .ensures .2)
 
 returns-3 : tie.Need-returns-3
 returns-3 c = c .before .first-bad-from .ensures ∙ ap searchOf (sym (c .before .before .before .before .before .before .first-unseen .ensures .1))

@@ -27,13 +27,18 @@ loop-holds : tie.Need-loop-holds Inv-loop μ-loop
 loop-holds c = (c .before .before .before .before .pre .0 .mounts-are, omega (arith, c .before .before .before .before .pre .0 .mounts-are), refl, c .before .before .before .before .pre .4, refl)
 
 mount-holds-requires : tie.Need-mount-holds-requires Inv-loop μ-loop
-mount-holds-requires c κs = (c .before .before .before .before .before .before .before .pre .0, c .before .before .before .before .before .before .before .pre .1, c .before .before .before .before .before .before .before .pre .2, omega arith, c .before .before .loop .inv .3)
+mount-holds-requires c κs =
+    let p = c .before .before .before .before .before .before .before .pre in
+    (p .0, p .1, p .2, omega arith, c .before .before .loop .inv .3)
 
 same-length : tie.Need-same-length Inv-loop μ-loop
 same-length c = search needs
 
 returns : tie.Need-returns Inv-loop μ-loop
-returns c = sym (ap searchOf (c .before .before .before .before .loop .inv .2 ∙ find-here (λ k. not (mountHolds (treeOf (now (c .before .before .before .before .before .before .before .before .before .args .image))) k)) (c .before .before .before .before .loop .m) _ (omega arith) (ap not (sym (c .before .mount-holds .ensures)) ∙ c .if1 .taken)))
+returns c =
+    let a = c .before .before .before .before .before .before .before .before .before .args in
+    let l = c .before .before .before .before .loop in
+    sym (ap searchOf (l .inv .2 ∙ find-here (λ k. not (mountHolds (treeOf (now (a .image))) k)) (l .m) _ (omega arith) (ap not (sym (c .before .mount-holds .ensures)) ∙ c .if1 .taken)))
 
 note-point-requires : tie.Need-note-point-requires Inv-loop μ-loop
 note-point-requires c κs = (c .before .before .before .before .before .before .before .before .before .before .pre .0, omega arith, c .before .before .before .before .before .loop .inv .3)
@@ -45,19 +50,27 @@ loop-less : tie.Need-loop-less Inv-loop μ-loop
 loop-less c = omega arith
 
 loop-again : tie.Need-loop-again Inv-loop μ-loop
-loop-again c = (
-  c .before .before .before .before .before .before .before .before .loop .inv .0,
-  omega arith,
-  c .before .before .before .before .before .before .before .before .loop .inv .2 ∙ find-on (λ k. not (mountHolds (treeOf (now (c .before .before .before .before .before .before .before .before .before .before .before .before .before .args .image))) k)) (c .before .before .before .before .before .before .before .before .loop .m) _ (omega arith) (ap not (sym (c .before .before .before .before .before .mount-holds .ensures)) ∙ c .before .before .before .before .if1 .left),
-  c .before .before .note-point .ensures .0,
-  c .before .before .note-point .ensures .1 ∙ c .before .before .before .before .before .before .before .before .loop .inv .4,
-)
+loop-again c =
+    let a = c .before .before .before .before .before .before .before .before .before .before .before .before .before .args in
+    let l = c .before .before .before .before .before .before .before .before .loop in
+    let mount-holds = c .before .before .before .before .before .mount-holds in
+    let if1 = c .before .before .before .before .if1 in
+    let note-point = c .before .before .note-point in
+    let t = treeOf (now (a .image)) in (
+      l .inv .0,
+      omega arith,
+      l .inv .2 ∙ find-on (λ k. not (mountHolds t k)) (l .m) _ (omega arith) (ap not (sym (mount-holds .ensures)) ∙ if1 .left),
+      note-point .ensures .0,
+      note-point .ensures .1 ∙ l .inv .4,
+    )
 
 same-length-2 : tie.Need-same-length-2 Inv-loop μ-loop
 same-length-2 c = search needs
 
 returns-2 : tie.Need-returns-2 Inv-loop μ-loop
-returns-2 c = sym (ap searchOf (c .before .loop .inv .2 ∙ find-done (λ k. not (mountHolds (treeOf (now (c .before .before .before .before .before .before .args .image))) k)) (c .before .loop .m) _ (omega arith)))
+returns-2 c =
+    let a = c .before .before .before .before .before .before .args in
+    sym (ap searchOf (c .before .loop .inv .2 ∙ find-done (λ k. not (mountHolds (treeOf (now (a .image))) k)) (c .before .loop .m) _ (omega arith)))
 
 pub first-failing-spec : {M : Type 1} → statement M
 first-failing-spec =

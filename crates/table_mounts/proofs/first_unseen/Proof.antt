@@ -50,12 +50,16 @@ loop-less c = omega arith
 
 loop-again : tie.Need-loop-again Inv-loop μ-loop
 loop-again c =
-    let t = treeOf (now (c .before .before .before .before .before .before .before .before .before .before .before .before .args .image)) in (
-      c .before .before .before .before .before .before .before .before .loop .inv .0,
+    let a = c .before .before .before .before .before .before .before .before .before .before .before .before .args in
+    let l = c .before .before .before .before .before .before .before .before .loop in
+    let steps-left = c .before .before .before .before .before .steps-left in
+    let note-point = c .before .before .note-point in
+    let t = treeOf (now (a .image)) in (
+      l .inv .0,
       omega arith,
-      c .before .before .before .before .before .before .before .before .loop .inv .2 ∙ find-on (λ k. not (mountHolds t k)) (c .before .before .before .before .before .before .before .before .loop .m) (t .mounts) (omega arith) (ap not (c .before .before .before .before .before .steps-left .ensures (omega arith))),
-      c .before .before .note-point .ensures .0,
-      c .before .before .note-point .ensures .1 ∙ c .before .before .before .before .before .before .before .before .loop .inv .4,
+      l .inv .2 ∙ find-on (λ k. not (mountHolds t k)) (l .m) (t .mounts) (omega arith) (ap not (steps-left .ensures (omega arith))),
+      note-point .ensures .0,
+      note-point .ensures .1 ∙ l .inv .4,
     )
 
 same-length-2 : tie.Need-same-length-2 Inv-loop μ-loop

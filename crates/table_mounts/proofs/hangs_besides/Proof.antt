@@ -22,21 +22,27 @@ mount-parent-requires : tie.Need-mount-parent-requires
 mount-parent-requires c κs = search needs
 
 returns-2 : tie.Need-returns-2
-returns-2 c = sym (besides-above (treeOf (now (c .before .before .before .before .before .args .image))) (c .before .before .before .before .before .args .m) (omega arith) ∙ rw (le-ltb (treeOf (now (c .before .before .before .before .before .args .image)) .mountParent (c .before .before .before .before .before .args .m)) (c .before .before .before .before .before .args .m) (omega arith)))
+returns-2 c =
+    let a = c .before .before .before .before .before .args in
+    sym (besides-above (treeOf (now (a .image))) (a .m) (omega arith) ∙ rw (le-ltb (treeOf (now (a .image)) .mountParent (a .m)) (a .m) (omega arith)))
 
 point-fits-requires : tie.Need-point-fits-requires
 point-fits-requires c κs = search needs
 
 returns-3 : tie.Need-returns-3
-returns-3 c = sym (besides-above (treeOf (now (c .before .before .before .before .before .before .before .args .image))) (c .before .before .before .before .before .before .before .args .m) (omega arith) ∙ simp (sym (c .before .point-fits .ensures) ∙ not-true _ (c .if3 .taken), and-false))
+returns-3 c =
+    let a = c .before .before .before .before .before .before .before .args in
+    sym (besides-above (treeOf (now (a .image))) (a .m) (omega arith) ∙ simp (sym (c .before .point-fits .ensures) ∙ not-true _ (c .if3 .taken), and-false))
 
 clashes-requires : tie.Need-clashes-requires
 clashes-requires c κs = search needs
 
 returns-4 : tie.Need-returns-4
 returns-4 c =
-    let t = treeOf (now (c .before .before .before .before .before .before .before .before .args .image)) in
-    ap not (c .clashes .ensures) ∙ sym (besides-above t (c .before .before .before .before .before .before .before .before .args .m) (omega arith) ∙ rw (lt-ltb (t .mountParent (c .before .before .before .before .before .before .before .before .args .m)) (c .before .before .before .before .before .before .before .before .args .m) (omega arith), sym (c .before .before .point-fits .ensures) ∙ not-false _ (c .before .if3 .left)))
+    let a = c .before .before .before .before .before .before .before .before .args in
+    let t = treeOf (now (a .image)) in
+    ap not (c .clashes .ensures)
+    ∙ sym (besides-above t (a .m) (omega arith) ∙ rw (lt-ltb (t .mountParent (a .m)) (a .m) (omega arith), sym (c .before .before .point-fits .ensures) ∙ not-false _ (c .before .if3 .left)))
 
 pub hangs-besides-spec : {M : Type 1} → statement M
 hangs-besides-spec =

@@ -17,14 +17,18 @@ is-directory-requires c κs = search needs
 
 returns : tie.Need-returns
 unfolding holdsBesides
-returns c = let t = treeOf (now (c .before .before .before .before .before .args .image)) in simp (ap (isDirectory t) (sym (c .before .before .mount-root .ensures .0)) ∙ sym (c .before .is-directory .ensures) ∙ not-true _ (c .if1 .taken))
+returns c =
+    let a = c .before .before .before .before .before .args in
+    let t = treeOf (now (a .image)) in simp (ap (isDirectory t) (sym (c .before .before .mount-root .ensures .0)) ∙ sym (c .before .is-directory .ensures) ∙ not-true _ (c .if1 .taken))
 
 mount-zero-requires : tie.Need-mount-zero-requires
 mount-zero-requires c κs = search needs
 
 returns-2 : tie.Need-returns-2
 unfolding holdsBesides
-returns-2 c = simp (ne-eqb (treeOf (now (c .before .before .before .before .before .before .before .args .image)) .mountZero (c .before .before .before .before .before .before .before .args .m)) 0 (λ e. c .if2 .taken (c .before .mount-zero .ensures .0 ∙ e)), and-false)
+returns-2 c =
+    let a = c .before .before .before .before .before .before .before .args in
+    simp (ne-eqb (treeOf (now (a .image)) .mountZero (a .m)) 0 (λ e. c .if2 .taken (c .before .mount-zero .ensures .0 ∙ e)), and-false)
 
 hangs-besides-requires : tie.Need-hangs-besides-requires
 hangs-besides-requires c κs = search needs
@@ -32,8 +36,12 @@ hangs-besides-requires c κs = search needs
 returns-3 : tie.Need-returns-3
 unfolding holdsBesides
 returns-3 c =
-    let t = treeOf (now (c .before .before .before .before .before .before .before .before .args .image)) in
-    c .hangs-besides .ensures ∙ rw (ap (isDirectory t) (sym (c .before .before .before .before .before .mount-root .ensures .0)) ∙ sym (c .before .before .before .before .is-directory .ensures) ∙ not-false _ (c .before .before .before .if1 .left), eq-eqb (t .mountZero (c .before .before .before .before .before .before .before .before .args .m)) 0 (sym (c .before .before .mount-zero .ensures .0) ∙ c .before .if2 .left))
+    let a = c .before .before .before .before .before .before .before .before .args in
+    let mount-root = c .before .before .before .before .before .mount-root in
+    let is-directory = c .before .before .before .before .is-directory in
+    let t = treeOf (now (a .image)) in
+    let directory = ap (isDirectory t) (sym (mount-root .ensures .0)) ∙ sym (is-directory .ensures) ∙ not-false _ (c .before .before .before .if1 .left) in
+    c .hangs-besides .ensures ∙ rw (directory, eq-eqb (t .mountZero (a .m)) 0 (sym (c .before .before .mount-zero .ensures .0) ∙ c .before .if2 .left))
 
 pub holds-besides-spec : {M : Type 1} → statement M
 holds-besides-spec =

@@ -24,7 +24,10 @@ mount-root-requires c κs = search needs
 
 returns-2 : tie.Need-returns-2
 unfolding hangs
-returns-2 c = ap₂ eqb (c .before .mount-point .ensures .0) (c .mount-root .ensures .0) ∙ rw (eq-eqb (treeOf (now (c .before .before .before .before .before .args .image)) .mountParent 0) 0 (sym (c .before .before .before .mount-parent .ensures .0) ∙ c .before .before .if1 .left))
+returns-2 c =
+    let a = c .before .before .before .before .before .args in
+    let mount-parent = c .before .before .before .mount-parent in
+    ap₂ eqb (c .before .mount-point .ensures .0) (c .mount-root .ensures .0) ∙ rw (eq-eqb (treeOf (now (a .image)) .mountParent 0) 0 (sym (mount-parent .ensures .0) ∙ c .before .before .if1 .left))
 
 pub mount-0-hangs-spec : {M : Type 1} → statement M
 mount-0-hangs-spec =

@@ -19,10 +19,15 @@ same-length : tie.Need-same-length
 same-length c = search needs
 
 returns : tie.Need-returns
-returns c = (noted-more (treeOf (now (c .before .before .before .before .args .image))) (c .before .before .before .before .args .m) (now (c .before .before .before .before .args .points)) (c .before .before .before .before .pre .2) (c .slot .result) (c .slot .ensures) (c .before .if1 .taken), simp length-set)
+returns c =
+    let a = c .before .before .before .before .args in
+    let p = c .before .before .before .before .pre in
+    (noted-more (treeOf (now (a .image))) (a .m) (now (a .points)) (p .2) (c .slot .result) (c .slot .ensures) (c .before .if1 .taken), simp length-set)
 
 returns-2 : tie.Need-returns-2
-returns-2 c = (noted-past (treeOf (now (c .before .before .before .args .image))) (c .before .before .before .args .m) (now (c .before .before .before .args .points)) (c .before .before .before .pre .2) (c .if1 .left), refl)
+returns-2 c =
+    let a = c .before .before .before .args in
+    (noted-past (treeOf (now (a .image))) (a .m) (now (a .points)) (c .before .before .before .pre .2) (c .if1 .left), refl)
 
 pub note-point-spec : {M : Type 1} → statement M
 note-point-spec =

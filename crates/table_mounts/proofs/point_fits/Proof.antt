@@ -22,7 +22,10 @@ is-directory-requires c κs = search needs
 
 returns : tie.Need-returns
 unfolding pointFits
-returns c = let t = treeOf (now (c .before .before .before .before .before .args .image)) in simp (ap (isDirectory t) (sym (c .before .before .before .mount-point .ensures .0)) ∙ sym (c .before .is-directory .ensures) ∙ not-true _ (c .if1 .taken))
+returns c =
+    let a = c .before .before .before .before .before .args in
+    let mount-point = c .before .before .before .mount-point in
+    let t = treeOf (now (a .image)) in simp (ap (isDirectory t) (sym (mount-point .ensures .0)) ∙ sym (c .before .is-directory .ensures) ∙ not-true _ (c .if1 .taken))
 
 returns-2 : tie.Need-returns-2
 unfolding pointFits

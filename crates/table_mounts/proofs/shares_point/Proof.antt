@@ -33,8 +33,11 @@ packed-point-requires-2 c κs = (c .before .before .before .before .pre .0, omeg
 
 returns : tie.Need-returns Inv-loop μ-loop
 returns c =
-    let t = treeOf (now (c .before .before .before .before .before .before .args .image)) in
-    sym (c .before .before .before .loop .inv .3 ∙ ap isSome (find-here _ (c .before .before .before .loop .k) (c .before .before .before .before .before .before .args .m) (c .before .before .loop-test .taken) (packed-same _ _ _ _ (c .before .packed-point2 .ensures .1) (c .before .before .before .loop .inv .2) (sym (c .before .packed-point2 .ensures .0) ∙ c .if1 .taken ∙ c .before .before .before .loop .inv .1))))
+    let a = c .before .before .before .before .before .before .args in
+    let l = c .before .before .before .loop in
+    let packed-point2 = c .before .packed-point2 in
+    let same = packed-same _ _ _ _ (packed-point2 .ensures .1) (l .inv .2) (sym (packed-point2 .ensures .0) ∙ c .if1 .taken ∙ l .inv .1) in
+    sym (l .inv .3 ∙ ap isSome (find-here _ (l .k) (a .m) (c .before .before .loop-test .taken) same))
 
 add-k : tie.Need-add-k Inv-loop μ-loop
 add-k c = omega arith
@@ -44,7 +47,13 @@ loop-less c = omega arith
 
 loop-again : tie.Need-loop-again Inv-loop μ-loop
 loop-again c =
-    (omega arith, c .before .before .before .loop .inv .1, c .before .before .before .loop .inv .2, c .before .before .before .loop .inv .3 ∙ ap isSome (find-on _ (c .before .before .before .loop .k) (c .before .before .before .before .before .before .args .m) (c .before .before .loop-test .taken) (packed-other _ _ _ _ (λ e. c .if1 .left (c .before .packed-point2 .ensures .0 ∙ e ∙ sym (c .before .before .before .loop .inv .1))))))
+    let a = c .before .before .before .before .before .before .args in
+    let l = c .before .before .before .loop in (
+      omega arith,
+      l .inv .1,
+      l .inv .2,
+      l .inv .3 ∙ ap isSome (find-on _ (l .k) (a .m) (c .before .before .loop-test .taken) (packed-other _ _ _ _ (λ e. c .if1 .left (c .before .packed-point2 .ensures .0 ∙ e ∙ sym (l .inv .1))))),
+    )
 
 returns-2 : tie.Need-returns-2 Inv-loop μ-loop
 returns-2 c = sym (c .before .loop .inv .3 ∙ ap isSome (find-done _ (c .before .loop .k) (c .before .before .before .before .args .m) (c .loop-test .left)))

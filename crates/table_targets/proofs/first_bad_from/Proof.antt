@@ -18,7 +18,11 @@ first-unseen-requires : tie.Need-first-unseen-requires
 first-unseen-requires c κs = (c .before .pre .0, c .before .pre .1, c .before .pre .2)
 
 returns : tie.Need-returns
-returns c = sym (ap searchOf (c .before .before .first-unseen .ensures .1 ∙ find-done (λ k. not (magicTargetHolds (treeOf (now (c .before .before .before .before .args .image))) k)) (c .before .before .first-unseen .result) _ (omega (arith, c .before .before .before .before .pre .0 .nodes-are))))
+returns c =
+    let a = c .before .before .before .before .args in
+    let p = c .before .before .before .before .pre in
+    let first-unseen = c .before .before .first-unseen in
+    sym (ap searchOf (first-unseen .ensures .1 ∙ find-done (λ k. not (magicTargetHolds (treeOf (now (a .image))) k)) (first-unseen .result) _ (omega (arith, p .0 .nodes-are))))
 
 slice-aggregate-chart : tie.Need-slice-aggregate-chart
 slice-aggregate-chart c = search needs
@@ -28,8 +32,10 @@ slice-aggregate-chart-2 c = search needs
 
 chart-requires : tie.Need-chart-requires
 chart-requires c κs =
-    let t = treeOf (now (c .before .before .before .before .before .before .args .image)) in
-    (c .before .before .before .before .before .before .pre .0, c .before .before .before .before .before .before .pre .1, rooted-none t 4096 (c .before .before .before .before .before .before .pre .0 .sized .few-nodes), leaps-none t 4096 (c .before .before .before .before .before .before .pre .0 .sized .few-nodes))
+    let a = c .before .before .before .before .before .before .args in
+    let p = c .before .before .before .before .before .before .pre in
+    let t = treeOf (now (a .image)) in
+    (p .0, p .1, rooted-none t 4096 (p .0 .sized .few-nodes), leaps-none t 4096 (p .0 .sized .few-nodes))
 
 slice-aggregate-first-failing : tie.Need-slice-aggregate-first-failing
 slice-aggregate-first-failing c = search needs
@@ -38,7 +44,11 @@ slice-aggregate-first-failing-2 : tie.Need-slice-aggregate-first-failing-2
 slice-aggregate-first-failing-2 c = search needs
 
 first-failing-requires : tie.Need-first-failing-requires
-first-failing-requires c κs = (c .before .before .before .before .before .before .before .before .before .before .before .pre .0, c .before .before .before .before .before .before .before .before .before .before .before .pre .1, c .before .before .before .before .chart .ensures .0, c .before .before .before .before .before .before .before .before .before .first-unseen .ensures .0)
+first-failing-requires c κs =
+    let p = c .before .before .before .before .before .before .before .before .before .before .before .pre in
+    let first-unseen = c .before .before .before .before .before .before .before .before .before .first-unseen in
+    let chart = c .before .before .before .before .chart in
+    (p .0, p .1, chart .ensures .0, first-unseen .ensures .0)
 
 returns-2 : tie.Need-returns-2
 returns-2 c = c .first-failing .ensures ∙ ap searchOf (sym (c .before .before .before .before .before .before .before .before .before .before .first-unseen .ensures .1))

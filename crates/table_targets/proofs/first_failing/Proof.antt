@@ -25,7 +25,10 @@ target-holds-requires : tie.Need-target-holds-requires Inv-loop μ-loop
 target-holds-requires c κs = (c .before .before .before .before .before .pre .0, c .before .before .before .before .before .pre .1, c .before .before .before .before .before .pre .2, omega arith)
 
 returns : tie.Need-returns Inv-loop μ-loop
-returns c = sym (ap searchOf (c .before .before .before .loop .inv .2 ∙ find-here (λ k. not (magicTargetHolds (treeOf (now (c .before .before .before .before .before .before .before .args .image))) k)) (c .before .before .before .loop .n) _ (omega arith) (ap not (sym (c .before .target-holds .ensures)) ∙ c .if1 .taken)))
+returns c =
+    let a = c .before .before .before .before .before .before .before .args in
+    let l = c .before .before .before .loop in
+    sym (ap searchOf (l .inv .2 ∙ find-here (λ k. not (magicTargetHolds (treeOf (now (a .image))) k)) (l .n) _ (omega arith) (ap not (sym (c .before .target-holds .ensures)) ∙ c .if1 .taken)))
 
 add-n : tie.Need-add-n Inv-loop μ-loop
 add-n c = omega arith
@@ -34,10 +37,15 @@ loop-less : tie.Need-loop-less Inv-loop μ-loop
 loop-less c = omega arith
 
 loop-again : tie.Need-loop-again Inv-loop μ-loop
-loop-again c = (c .before .before .before .loop .inv .0, omega arith, c .before .before .before .loop .inv .2 ∙ find-on (λ k. not (magicTargetHolds (treeOf (now (c .before .before .before .before .before .before .before .args .image))) k)) (c .before .before .before .loop .n) _ (omega arith) (ap not (sym (c .before .target-holds .ensures)) ∙ c .if1 .left))
+loop-again c =
+    let a = c .before .before .before .before .before .before .before .args in
+    let l = c .before .before .before .loop in
+    (l .inv .0, omega arith, l .inv .2 ∙ find-on (λ k. not (magicTargetHolds (treeOf (now (a .image))) k)) (l .n) _ (omega arith) (ap not (sym (c .before .target-holds .ensures)) ∙ c .if1 .left))
 
 returns-2 : tie.Need-returns-2 Inv-loop μ-loop
-returns-2 c = sym (ap searchOf (c .before .loop .inv .2 ∙ find-done (λ k. not (magicTargetHolds (treeOf (now (c .before .before .before .before .before .args .image))) k)) (c .before .loop .n) _ (omega arith)))
+returns-2 c =
+    let a = c .before .before .before .before .before .args in
+    sym (ap searchOf (c .before .loop .inv .2 ∙ find-done (λ k. not (magicTargetHolds (treeOf (now (a .image))) k)) (c .before .loop .n) _ (omega arith)))
 
 pub first-failing-spec : {M : Type 1} → statement M
 first-failing-spec =

@@ -39,9 +39,11 @@ loop-less c = omega arith
 
 loop-again : tie.Need-loop-again Inv-loop μ-loop
 loop-again c =
-    let t = treeOf (now (c .before .before .before .before .before .before .args .image)) in
-    let kept = lead-keeps t (c .before .before .before .before .loop .n) ∙ settled-keeps t (leadOf t (c .before .before .before .before .loop .n)) (ap settled (sym (c .before .before .lead-of .ensures)) ∙ sym (c .before .is-settled .ensures) ∙ not-false _ (c .if1 .left)) in
-    (c .before .before .before .before .loop .inv .0, omega arith, c .before .before .before .before .loop .inv .2 ∙ find-on (λ k. not (magicTargetHolds t k)) (c .before .before .before .before .loop .n) (t .nodes) (omega arith) (ap not kept))
+    let a = c .before .before .before .before .before .before .args in
+    let l = c .before .before .before .before .loop in
+    let t = treeOf (now (a .image)) in
+    let kept = lead-keeps t (l .n) ∙ settled-keeps t (leadOf t (l .n)) (ap settled (sym (c .before .before .lead-of .ensures)) ∙ sym (c .before .is-settled .ensures) ∙ not-false _ (c .if1 .left)) in
+    (l .inv .0, omega arith, l .inv .2 ∙ find-on (λ k. not (magicTargetHolds t k)) (l .n) (t .nodes) (omega arith) (ap not kept))
 
 returns-2 : tie.Need-returns-2 Inv-loop μ-loop
 returns-2 c = (omega arith, c .before .loop .inv .2)

@@ -19,24 +19,35 @@ enum-known-mount c = search needs
 
 mount-root-requires : tie.Need-mount-root-requires
 mount-root-requires c κs =
-    let led = into-facts (treeOf (now (c .before .before .before .before .before .args .image))) (c .before .before .before .before .before .args .n) _ _ (sym (c .before .before .before .lead-of .ensures) ∙ c .before .mount .given .1) in
-    (c .before .before .before .before .before .pre .0, led .0)
+    let a = c .before .before .before .before .before .args in
+    let p = c .before .before .before .before .before .pre in
+    let lead-of = c .before .before .before .lead-of in
+    let led = into-facts (treeOf (now (a .image))) (a .n) _ _ (sym (lead-of .ensures) ∙ c .before .mount .given .1) in
+    (p .0, led .0)
 
 climb-requires : tie.Need-climb-requires
 climb-requires c κs =
-    let led = into-facts (treeOf (now (c .before .before .before .before .before .before .args .image))) (c .before .before .before .before .before .before .args .n) _ _ (sym (c .before .before .before .before .lead-of .ensures) ∙ c .before .before .mount .given .1) in
-    (c .before .before .before .before .before .before .pre .0 .sized, c .before .before .before .before .before .before .pre .1, led .2)
+    let a = c .before .before .before .before .before .before .args in
+    let p = c .before .before .before .before .before .before .pre in
+    let lead-of = c .before .before .before .before .lead-of in
+    let led = into-facts (treeOf (now (a .image))) (a .n) _ _ (sym (lead-of .ensures) ∙ c .before .before .mount .given .1) in
+    (p .0 .sized, p .1, led .2)
 
 enum-told-2 : tie.Need-enum-told-2
 enum-told-2 c = search needs
 
 returns : tie.Need-returns
-returns c = λ h. lead-keeps (treeOf (now (c .before .before .before .before .args .image))) (c .before .before .before .before .args .n) ∙ ap (keeps (treeOf (now (c .before .before .before .before .args .image)))) (sym (c .before .before .lead-of .ensures) ∙ c .enum-told .given .1)
+returns c =
+    let a = c .before .before .before .before .args in
+    λ h. lead-keeps (treeOf (now (a .image))) (a .n) ∙ ap (keeps (treeOf (now (a .image)))) (sym (c .before .before .lead-of .ensures) ∙ c .enum-told .given .1)
 
 returns-2 : tie.Need-returns-2
-returns-2 c = λ h.
-    let t = treeOf (now (c .before .before .before .before .before .before .before .args .image)) in
-    lead-keeps t (c .before .before .before .before .before .before .before .args .n) ∙ ap (keeps t) (sym (c .before .before .before .before .before .lead-of .ensures) ∙ c .before .before .before .mount .given .1) ∙ ap (under t _) (sym (c .before .mount-root .ensures .0)) ∙ c .climb .ensures h
+returns-2 c =
+    let a = c .before .before .before .before .before .before .before .args in
+    let lead-of = c .before .before .before .before .before .lead-of in
+    λ h.
+    let t = treeOf (now (a .image)) in
+    lead-keeps t (a .n) ∙ ap (keeps t) (sym (lead-of .ensures) ∙ c .before .before .before .mount .given .1) ∙ ap (under t _) (sym (c .before .mount-root .ensures .0)) ∙ c .climb .ensures h
 
 returns-3 : tie.Need-returns-3
 returns-3 c = λ h. absurd (omega arith)

@@ -18,20 +18,30 @@ enum-known-mount c = search needs
 
 is-within-requires : tie.Need-is-within-requires
 is-within-requires c κs =
-    let led = into-facts (treeOf (now (c .before .before .before .before .before .before .before .args .image))) (c .before .before .before .before .before .before .before .args .n) _ _ (sym (c .before .before .before .lead-of .ensures) ∙ c .before .mount .given .1) in
-    (c .before .before .before .before .before .before .before .pre .0, c .before .before .before .before .before .before .before .pre .1, c .before .before .before .before .before .before .before .pre .2, led .0, led .2)
+    let a = c .before .before .before .before .before .before .before .args in
+    let p = c .before .before .before .before .before .before .before .pre in
+    let lead-of = c .before .before .before .lead-of in
+    let led = into-facts (treeOf (now (a .image))) (a .n) _ _ (sym (lead-of .ensures) ∙ c .before .mount .given .1) in
+    (p .0, p .1, p .2, led .0, led .2)
 
 enum-told-2 : tie.Need-enum-told-2
 enum-told-2 c = search needs
 
 returns : tie.Need-returns
-returns c = sym (lead-keeps (treeOf (now (c .before .before .before .before .before .before .args .image))) (c .before .before .before .before .before .before .args .n) ∙ ap (keeps (treeOf (now (c .before .before .before .before .before .before .args .image)))) (sym (c .before .before .lead-of .ensures) ∙ c .enum-told .given .1))
+returns c =
+    let a = c .before .before .before .before .before .before .args in
+    sym (lead-keeps (treeOf (now (a .image))) (a .n) ∙ ap (keeps (treeOf (now (a .image)))) (sym (c .before .before .lead-of .ensures) ∙ c .enum-told .given .1))
 
 returns-2 : tie.Need-returns-2
-returns-2 c = c .is-within .ensures ∙ sym (lead-keeps (treeOf (now (c .before .before .before .before .before .before .before .before .args .image))) (c .before .before .before .before .before .before .before .before .args .n) ∙ ap (keeps (treeOf (now (c .before .before .before .before .before .before .before .before .args .image)))) (sym (c .before .before .before .before .lead-of .ensures) ∙ c .before .before .mount .given .1))
+returns-2 c =
+    let a = c .before .before .before .before .before .before .before .before .args in
+    let lead-of = c .before .before .before .before .lead-of in
+    c .is-within .ensures ∙ sym (lead-keeps (treeOf (now (a .image))) (a .n) ∙ ap (keeps (treeOf (now (a .image)))) (sym (lead-of .ensures) ∙ c .before .before .mount .given .1))
 
 returns-3 : tie.Need-returns-3
-returns-3 c = sym (lead-keeps (treeOf (now (c .before .before .before .before .before .before .args .image))) (c .before .before .before .before .before .before .args .n) ∙ ap (keeps (treeOf (now (c .before .before .before .before .before .before .args .image)))) (sym (c .before .before .lead-of .ensures) ∙ c .enum-told2 .given .1))
+returns-3 c =
+    let a = c .before .before .before .before .before .before .args in
+    sym (lead-keeps (treeOf (now (a .image))) (a .n) ∙ ap (keeps (treeOf (now (a .image)))) (sym (c .before .before .lead-of .ensures) ∙ c .enum-told2 .given .1))
 
 pub target-holds-spec : {M : Type 1} → statement M
 target-holds-spec =

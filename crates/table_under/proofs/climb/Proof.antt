@@ -26,7 +26,11 @@ returns : tie.Need-returns Inv-loop μ-loop
 returns c = λ h. absurd (omega arith)
 
 node-parent-requires : tie.Need-node-parent-requires Inv-loop μ-loop
-node-parent-requires c κs = (c .before .before .before .before .pre .0, directory-below (treeOf (now (c .before .before .before .before .args .image))) (c .before .before .before .before .pre .1) (c .before .before .loop .k) (c .before .before .loop .inv .0))
+node-parent-requires c κs =
+    let a = c .before .before .before .before .args in
+    let p = c .before .before .before .before .pre in
+    let l = c .before .before .loop in
+    (p .0, directory-below (treeOf (now (a .image))) (p .1) (l .k) (l .inv .0))
 
 sub-left : tie.Need-sub-left Inv-loop μ-loop
 sub-left c = omega arith
@@ -36,14 +40,22 @@ loop-less c = omega arith
 
 loop-again : tie.Need-loop-again Inv-loop μ-loop
 loop-again c =
-    let t = treeOf (now (c .before .before .before .before .before .args .image)) in
-    let is = c .node-parent .ensures .0 in (
-      parent-given t (c .before .before .before .before .before .pre .1) (c .before .before .before .loop .k) (c .node-parent .result) (c .before .before .before .loop .inv .0) is,
-      c .before .before .before .loop .inv .1 ∙ up-one t (c .before .before .before .before .before .pre .1) (c .before .before .before .loop .k) (c .node-parent .result) (c .before .before .before .before .before .args .root) (c .before .before .before .loop .inv .0) is (λ e. omega arith),
+    let a = c .before .before .before .before .before .args in
+    let p = c .before .before .before .before .before .pre in
+    let l = c .before .before .before .loop in
+    let node-parent = c .node-parent in
+    let t = treeOf (now (a .image)) in
+    let is = node-parent .ensures .0 in (
+      parent-given t (p .1) (l .k) (node-parent .result) (l .inv .0) is,
+      l .inv .1 ∙ up-one t (p .1) (l .k) (node-parent .result) (a .root) (l .inv .0) is (λ e. omega arith),
     )
 
 returns-2 : tie.Need-returns-2 Inv-loop μ-loop
-returns-2 c = λ h. c .before .before .loop .inv .1 ∙ under-self (treeOf (now (c .before .before .before .before .args .image))) (c .before .before .before .before .pre .1) (c .before .before .before .before .args .root) (c .before .before .loop .k) (c .before .before .loop .inv .0) (c .if2 .taken)
+returns-2 c =
+    let a = c .before .before .before .before .args in
+    let p = c .before .before .before .before .pre in
+    let l = c .before .before .loop in
+    λ h. l .inv .1 ∙ under-self (treeOf (now (a .image))) (p .1) (a .root) (l .k) (l .inv .0) (c .if2 .taken)
 
 returns-3 : tie.Need-returns-3 Inv-loop μ-loop
 returns-3 c = λ h. absurd (omega arith)

@@ -22,8 +22,11 @@ mul-result c = omega (arith, c .before .root-above .ensures .1)
 
 shared-slice-read-result : tie.Need-shared-slice-read-result
 shared-slice-read-result c =
-    let d = c .before .before .root-above .ensures .0 .directory (c .before .before .root-above .result - 1) (omega arith) in
-    omega (arith, directory-below (treeOf (now (c .before .before .before .before .before .before .args .image))) (c .before .before .before .before .before .before .pre .1) (c .before .before .root-above .result - 1) d)
+    let a = c .before .before .before .before .before .before .args in
+    let p = c .before .before .before .before .before .before .pre in
+    let root-above = c .before .before .root-above in
+    let d = root-above .ensures .0 .directory (root-above .result - 1) (omega arith) in
+    omega (arith, directory-below (treeOf (now (a .image))) (p .1) (root-above .result - 1) d)
 
 add-result : tie.Need-add-result
 add-result c = search needs

@@ -23,41 +23,58 @@ mount-root-requires : tie.Need-mount-root-requires Inv-loop μ-loop
 mount-root-requires c κs = search needs
 
 mul-wide : tie.Need-mul-wide Inv-loop μ-loop
-mul-wide c = omega (arith, directory-below (treeOf (now (c .before .before .before .before .args .image))) (c .before .before .before .before .pre .1) (c .before .before .before .before .args .target) (c .before .before .before .before .pre .4), c .before .before .before .before .pre .0 .sized .few-nodes)
+mul-wide c =
+    let a = c .before .before .before .before .args in
+    let p = c .before .before .before .before .pre in
+    omega (arith, directory-below (treeOf (now (a .image))) (p .1) (a .target) (p .4), p .0 .sized .few-nodes)
 
 shared-slice-read-wide : tie.Need-shared-slice-read-wide Inv-loop μ-loop
-shared-slice-read-wide c = omega (arith, directory-below (treeOf (now (c .before .before .before .before .before .args .image))) (c .before .before .before .before .before .pre .1) (c .before .before .before .before .before .args .target) (c .before .before .before .before .before .pre .4), c .before .before .before .before .before .pre .2 .filled .room)
+shared-slice-read-wide c =
+    let a = c .before .before .before .before .before .args in
+    let p = c .before .before .before .before .before .pre in
+    omega (arith, directory-below (treeOf (now (a .image))) (p .1) (a .target) (p .4), p .2 .filled .room)
 
 wide-requires : tie.Need-wide-requires Inv-loop μ-loop
 wide-requires c κs = tt
 
 loop-holds : tie.Need-loop-holds Inv-loop μ-loop
 loop-holds c =
-    let t = treeOf (now (c .before .before .before .before .before .before .args .image)) in
-    let near = c .before .before .before .before .before .before .pre .2 .filled .nearest (c .before .before .before .before .before .before .args .target) (directory-below t (c .before .before .before .before .before .before .pre .1) (c .before .before .before .before .before .before .args .target) (c .before .before .before .before .before .before .pre .4)) (c .before .before .before .before .before .before .pre .4) in
-    (c .before .before .mount-root .ensures .0, omega (arith, c .before .before .mount-root .ensures .1), subst (Reached t (c .before .before .before .before .before .before .args .target) (t .mountRoot (c .before .before .before .before .before .before .args .mount))) (sym (c .wide .ensures .0)) (near .reached (c .before .before .before .before .before .before .args .mount) (c .before .before .before .before .before .before .pre .3)))
+    let a = c .before .before .before .before .before .before .args in
+    let p = c .before .before .before .before .before .before .pre in
+    let mount-root = c .before .before .mount-root in
+    let t = treeOf (now (a .image)) in
+    let near = p .2 .filled .nearest (a .target) (directory-below t (p .1) (a .target) (p .4)) (p .4) in
+    (mount-root .ensures .0, omega (arith, mount-root .ensures .1), subst (Reached t (a .target) (t .mountRoot (a .mount))) (sym (c .wide .ensures .0)) (near .reached (a .mount) (p .3)))
 
 add-loop : tie.Need-add-loop Inv-loop μ-loop
 add-loop c = omega arith
 
 step-up-requires : tie.Need-step-up-requires Inv-loop μ-loop
 step-up-requires c κs =
-    (c .before .before .before .before .before .before .before .before .pre .0 .sized, c .before .before .before .before .before .before .before .before .pre .1, c .before .before .before .before .before .before .before .before .pre .2, c .before .before .before .before .before .before .before .before .pre .3, c .before .loop .inv .0, omega arith, c .before .loop .inv .2 .from (c .before .loop .k - 1) (omega arith) .0)
+    let p = c .before .before .before .before .before .before .before .before .pre in
+    let l = c .before .loop in
+    (p .0 .sized, p .1, p .2, p .3, l .inv .0, omega arith, l .inv .2 .from (l .k - 1) (omega arith) .0)
 
 loop-less : tie.Need-loop-less Inv-loop μ-loop
 loop-less c = c .step-up .ensures .0
 
 loop-again : tie.Need-loop-again Inv-loop μ-loop
-loop-again c = (c .before .before .loop .inv .0, c .before .before .loop .inv .1, reached-on (treeOf (now (c .before .before .before .before .before .before .before .before .before .args .image))) (c .before .before .loop .inv .2) (omega arith) (c .step-up .ensures .1))
+loop-again c =
+    let a = c .before .before .before .before .before .before .before .before .before .args in
+    let l = c .before .before .loop in
+    (l .inv .0, l .inv .1, reached-on (treeOf (now (a .image))) (l .inv .2) (omega arith) (c .step-up .ensures .1))
 
 add-result : tie.Need-add-result Inv-loop μ-loop
 add-result c = omega arith
 
 returns : tie.Need-returns Inv-loop μ-loop
 returns c =
-    let t = treeOf (now (c .before .before .before .before .before .before .before .before .args .image)) in
-    let k = c .before .loop .k in
-    ap (λ (i : ℕ). eqb k (i + 1)) (c .before .loop .inv .0) ∙ way-end t (c .before .before .before .before .before .before .before .before .pre .1) (c .before .before .before .before .before .before .before .before .args .target) (t .mountRoot (c .before .before .before .before .before .before .before .before .args .mount)) k (c .before .loop .inv .2) (omega (arith, c .before .loop .inv .0))
+    let a = c .before .before .before .before .before .before .before .before .args in
+    let p = c .before .before .before .before .before .before .before .before .pre in
+    let l = c .before .loop in
+    let t = treeOf (now (a .image)) in
+    let k = l .k in
+    ap (λ (i : ℕ). eqb k (i + 1)) (l .inv .0) ∙ way-end t (p .1) (a .target) (t .mountRoot (a .mount)) k (l .inv .2) (omega (arith, l .inv .0))
 
 pub is-within-spec : {M : Type 1} → statement M
 is-within-spec =

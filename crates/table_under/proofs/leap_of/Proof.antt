@@ -12,7 +12,9 @@ use Rattle.table_under.proofs.leap_of.Statement.{statement}
 use Rattle.table_under.proofs.leap_of.Tie as tie
 
 root-above-requires : tie.Need-root-above-requires
-root-above-requires c κs = (c .before .before .before .before .pre .0, c .before .before .before .before .pre .1, c .before .before .before .before .pre .2 .filled, c .before .before .before .before .pre .4)
+root-above-requires c κs =
+    let p = c .before .before .before .before .pre in
+    (p .0, p .1, p .2 .filled, p .4)
 
 returns : tie.Need-returns
 returns c = (leap-none (treeOf (now (c .before .before .before .before .before .before .args .image))) (c .before .before .before .before .before .before .args .n), omega arith)
@@ -25,9 +27,12 @@ mul-wide c = omega (arith, c .before .root-above .ensures .1)
 
 shared-slice-read-wide : tie.Need-shared-slice-read-wide
 shared-slice-read-wide c =
-    let t = treeOf (now (c .before .before .before .before .before .before .before .args .image)) in
-    let d = c .before .before .root-above .ensures .0 .directory (c .before .before .root-above .result - 1) (omega arith) in
-    omega (arith, directory-below t (c .before .before .before .before .before .before .before .pre .1) (c .before .before .root-above .result - 1) d, c .before .before .before .before .before .before .before .pre .2 .leaping .room)
+    let a = c .before .before .before .before .before .before .before .args in
+    let p = c .before .before .before .before .before .before .before .pre in
+    let root-above = c .before .before .root-above in
+    let t = treeOf (now (a .image)) in
+    let d = root-above .ensures .0 .directory (root-above .result - 1) (omega arith) in
+    omega (arith, directory-below t (p .1) (root-above .result - 1) d, p .2 .leaping .room)
 
 wide-requires : tie.Need-wide-requires
 wide-requires c κs = tt
@@ -43,11 +48,15 @@ mul-wide-2 c = omega (arith, c .before .wide .ensures .1)
 
 shared-slice-read-wide-2 : tie.Need-shared-slice-read-wide-2
 shared-slice-read-wide-2 c =
-    let t = treeOf (now (c .before .before .before .before .before .before .before .before .before .before .args .image)) in
-    let d = c .before .before .before .before .before .root-above .ensures .0 .directory (c .before .before .before .before .before .root-above .result - 1) (omega arith) in
-    let second = subst (Leap t (c .before .before .before .before .before .root-above .result - 1)) (sym (c .before .before .wide .ensures .0)) (c .before .before .before .before .before .before .before .before .before .before .pre .2 .leaping .leap (c .before .before .before .before .before .root-above .result - 1) d) in
-    let e = second .directory (c .before .before .wide .result - 1) (omega arith) in
-    omega (arith, directory-below t (c .before .before .before .before .before .before .before .before .before .before .pre .1) (c .before .before .wide .result - 1) e, c .before .before .before .before .before .before .before .before .before .before .pre .2 .leaping .room)
+    let a = c .before .before .before .before .before .before .before .before .before .before .args in
+    let p = c .before .before .before .before .before .before .before .before .before .before .pre in
+    let root-above = c .before .before .before .before .before .root-above in
+    let wide = c .before .before .wide in
+    let t = treeOf (now (a .image)) in
+    let d = root-above .ensures .0 .directory (root-above .result - 1) (omega arith) in
+    let second = subst (Leap t (root-above .result - 1)) (sym (wide .ensures .0)) (p .2 .leaping .leap (root-above .result - 1) d) in
+    let e = second .directory (wide .result - 1) (omega arith) in
+    omega (arith, directory-below t (p .1) (wide .result - 1) e, p .2 .leaping .room)
 
 wide-requires-2 : tie.Need-wide-requires-2
 wide-requires-2 c κs = tt
@@ -63,9 +72,12 @@ mul-wide-3 c = omega (arith, c .before .before .before .before .before .before .
 
 shared-slice-read-wide-3 : tie.Need-shared-slice-read-wide-3
 shared-slice-read-wide-3 c =
-    let t = treeOf (now (c .before .before .before .before .before .before .before .before .before .before .before .before .before .args .image)) in
-    let d = c .before .before .before .before .before .before .before .before .root-above .ensures .0 .directory (c .before .before .before .before .before .before .before .before .root-above .result - 1) (omega arith) in
-    omega (arith, directory-below t (c .before .before .before .before .before .before .before .before .before .before .before .before .before .pre .1) (c .before .before .before .before .before .before .before .before .root-above .result - 1) d)
+    let a = c .before .before .before .before .before .before .before .before .before .before .before .before .before .args in
+    let p = c .before .before .before .before .before .before .before .before .before .before .before .before .before .pre in
+    let root-above = c .before .before .before .before .before .before .before .before .root-above in
+    let t = treeOf (now (a .image)) in
+    let d = root-above .ensures .0 .directory (root-above .result - 1) (omega arith) in
+    omega (arith, directory-below t (p .1) (root-above .result - 1) d)
 
 wide-requires-3 : tie.Need-wide-requires-3
 wide-requires-3 c κs = tt
@@ -78,13 +90,18 @@ mul-wide-4 c = omega (arith, c .before .before .before .wide2 .ensures .1)
 
 shared-slice-read-wide-4 : tie.Need-shared-slice-read-wide-4
 shared-slice-read-wide-4 c =
-    let t = treeOf (now (c .before .before .before .before .before .before .before .before .before .before .before .before .before .before .before .args .image)) in
-    let d = c .before .before .before .before .before .before .before .before .before .before .root-above .ensures .0 .directory (c .before .before .before .before .before .before .before .before .before .before .root-above .result - 1) (omega arith) in
-    let second = subst (Leap t (c .before .before .before .before .before .before .before .before .before .before .root-above .result - 1)) (sym (c .before .before .before .before .before .before .before .wide .ensures .0)) (c .before .before .before .before .before .before .before .before .before .before .before .before .before .before .before .pre .2 .leaping .leap (c .before .before .before .before .before .before .before .before .before .before .root-above .result - 1) d) in
-    let e = second .directory (c .before .before .before .before .before .before .before .wide .result - 1) (omega arith) in
-    let third = subst (Leap t (c .before .before .before .before .before .before .before .wide .result - 1)) (sym (c .before .before .before .before .wide2 .ensures .0)) (c .before .before .before .before .before .before .before .before .before .before .before .before .before .before .before .pre .2 .leaping .leap (c .before .before .before .before .before .before .before .wide .result - 1) e) in
-    let f = third .directory (c .before .before .before .before .wide2 .result - 1) (omega arith) in
-    omega (arith, directory-below t (c .before .before .before .before .before .before .before .before .before .before .before .before .before .before .before .pre .1) (c .before .before .before .before .wide2 .result - 1) f)
+    let a = c .before .before .before .before .before .before .before .before .before .before .before .before .before .before .before .args in
+    let p = c .before .before .before .before .before .before .before .before .before .before .before .before .before .before .before .pre in
+    let root-above = c .before .before .before .before .before .before .before .before .before .before .root-above in
+    let wide = c .before .before .before .before .before .before .before .wide in
+    let wide2 = c .before .before .before .before .wide2 in
+    let t = treeOf (now (a .image)) in
+    let d = root-above .ensures .0 .directory (root-above .result - 1) (omega arith) in
+    let second = subst (Leap t (root-above .result - 1)) (sym (wide .ensures .0)) (p .2 .leaping .leap (root-above .result - 1) d) in
+    let e = second .directory (wide .result - 1) (omega arith) in
+    let third = subst (Leap t (wide .result - 1)) (sym (wide2 .ensures .0)) (p .2 .leaping .leap (wide .result - 1) e) in
+    let f = third .directory (wide2 .result - 1) (omega arith) in
+    omega (arith, directory-below t (p .1) (wide2 .result - 1) f)
 
 wide-requires-4 : tie.Need-wide-requires-4
 wide-requires-4 c κs = tt
@@ -100,11 +117,15 @@ mul-wide-5 c = omega (arith, c .before .before .before .before .before .before .
 
 shared-slice-read-wide-5 : tie.Need-shared-slice-read-wide-5
 shared-slice-read-wide-5 c =
-    let t = treeOf (now (c .before .before .before .before .before .before .before .before .before .before .before .before .before .before .before .before .before .args .image)) in
-    let d = c .before .before .before .before .before .before .before .before .before .before .before .before .root-above .ensures .0 .directory (c .before .before .before .before .before .before .before .before .before .before .before .before .root-above .result - 1) (omega arith) in
-    let second = subst (Leap t (c .before .before .before .before .before .before .before .before .before .before .before .before .root-above .result - 1)) (sym (c .before .before .before .before .before .before .before .before .before .wide .ensures .0)) (c .before .before .before .before .before .before .before .before .before .before .before .before .before .before .before .before .before .pre .2 .leaping .leap (c .before .before .before .before .before .before .before .before .before .before .before .before .root-above .result - 1) d) in
-    let e = second .directory (c .before .before .before .before .before .before .before .before .before .wide .result - 1) (omega arith) in
-    omega (arith, directory-below t (c .before .before .before .before .before .before .before .before .before .before .before .before .before .before .before .before .before .pre .1) (c .before .before .before .before .before .before .before .before .before .wide .result - 1) e)
+    let a = c .before .before .before .before .before .before .before .before .before .before .before .before .before .before .before .before .before .args in
+    let p = c .before .before .before .before .before .before .before .before .before .before .before .before .before .before .before .before .before .pre in
+    let root-above = c .before .before .before .before .before .before .before .before .before .before .before .before .root-above in
+    let wide = c .before .before .before .before .before .before .before .before .before .wide in
+    let t = treeOf (now (a .image)) in
+    let d = root-above .ensures .0 .directory (root-above .result - 1) (omega arith) in
+    let second = subst (Leap t (root-above .result - 1)) (sym (wide .ensures .0)) (p .2 .leaping .leap (root-above .result - 1) d) in
+    let e = second .directory (wide .result - 1) (omega arith) in
+    omega (arith, directory-below t (p .1) (wide .result - 1) e)
 
 wide-requires-5 : tie.Need-wide-requires-5
 wide-requires-5 c κs = tt
@@ -114,12 +135,17 @@ mul-if4 c = omega (arith, c .wide5 .ensures .1)
 
 returns-4 : tie.Need-returns-4
 returns-4 c =
-    let t = treeOf (now (c .before .before .before .before .before .before .before .before .before .before .before .before .before .before .before .before .before .before .before .args .image)) in
-    let d = c .before .before .before .before .before .before .before .before .before .before .before .before .before .before .root-above .ensures .0 .directory (c .before .before .before .before .before .before .before .before .before .before .before .before .before .before .root-above .result - 1) (omega arith) in
-    let second = subst (Leap t (c .before .before .before .before .before .before .before .before .before .before .before .before .before .before .root-above .result - 1)) (sym (c .before .before .before .before .before .before .before .before .before .before .before .wide .ensures .0)) (c .before .before .before .before .before .before .before .before .before .before .before .before .before .before .before .before .before .before .before .pre .2 .leaping .leap (c .before .before .before .before .before .before .before .before .before .before .before .before .before .before .root-above .result - 1) d) in
-    let e = second .directory (c .before .before .before .before .before .before .before .before .before .before .before .wide .result - 1) (omega arith) in
-    let third = subst (Leap t (c .before .before .before .before .before .before .before .before .before .before .before .wide .result - 1)) (sym (c .before .before .before .before .before .before .before .before .wide2 .ensures .0)) (c .before .before .before .before .before .before .before .before .before .before .before .before .before .before .before .before .before .before .before .pre .2 .leaping .leap (c .before .before .before .before .before .before .before .before .before .before .before .wide .result - 1) e) in
-    (leap-far t (c .before .before .before .before .before .before .before .before .before .before .before .before .before .before .before .before .before .before .before .args .n) (c .before .before .before .before .before .before .before .before .before .before .before .before .before .before .root-above .result) (c .before .before .before .before .before .before .before .before .before .before .before .wide .result) (c .before .before .before .before .before .before .before .before .wide2 .result) (c .before .before .before .before .before .before .before .before .before .before .before .before .before .before .root-above .ensures .0) (omega arith) second (omega arith) third, c .before .before .before .before .before .before .before .before .wide2 .ensures .1)
+    let a = c .before .before .before .before .before .before .before .before .before .before .before .before .before .before .before .before .before .before .before .args in
+    let p = c .before .before .before .before .before .before .before .before .before .before .before .before .before .before .before .before .before .before .before .pre in
+    let root-above = c .before .before .before .before .before .before .before .before .before .before .before .before .before .before .root-above in
+    let wide = c .before .before .before .before .before .before .before .before .before .before .before .wide in
+    let wide2 = c .before .before .before .before .before .before .before .before .wide2 in
+    let t = treeOf (now (a .image)) in
+    let d = root-above .ensures .0 .directory (root-above .result - 1) (omega arith) in
+    let second = subst (Leap t (root-above .result - 1)) (sym (wide .ensures .0)) (p .2 .leaping .leap (root-above .result - 1) d) in
+    let e = second .directory (wide .result - 1) (omega arith) in
+    let third = subst (Leap t (wide .result - 1)) (sym (wide2 .ensures .0)) (p .2 .leaping .leap (wide .result - 1) e) in
+    (leap-far t (a .n) (root-above .result) (wide .result) (wide2 .result) (root-above .ensures .0) (omega arith) second (omega arith) third, wide2 .ensures .1)
 
 returns-5 : tie.Need-returns-5
 returns-5 c = c .before .before .before .before .before .before .before .before .before .before .before .before .before .before .root-above .ensures

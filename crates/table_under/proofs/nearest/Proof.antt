@@ -13,7 +13,9 @@ shared-slice-read-own : tie.Need-shared-slice-read-own
 shared-slice-read-own c = search needs
 
 returns : tie.Need-returns
-returns c = nearest-own (treeOf (now (c .before .before .before .before .args .image))) (now (c .before .before .before .before .args .near)) (c .before .before .before .before .args .n) (c .if1 .taken)
+returns c =
+    let a = c .before .before .before .before .args in
+    nearest-own (treeOf (now (a .image))) (now (a .near)) (a .n) (c .if1 .taken)
 
 node-parent-requires : tie.Need-node-parent-requires
 node-parent-requires c κs = search needs
@@ -25,10 +27,16 @@ shared-slice-read-result : tie.Need-shared-slice-read-result
 shared-slice-read-result c = search needs
 
 returns-2 : tie.Need-returns-2
-returns-2 c = nearest-parent (treeOf (now (c .before .before .before .before .before .before .before .args .image))) (now (c .before .before .before .before .before .before .before .args .near)) (c .before .before .before .before .before .before .before .args .n) (c .before .before .node-parent .result) (c .before .before .before .if1 .left) (c .before .before .node-parent .ensures .0) (c .before .if2 .taken)
+returns-2 c =
+    let a = c .before .before .before .before .before .before .before .args in
+    let node-parent = c .before .before .node-parent in
+    nearest-parent (treeOf (now (a .image))) (now (a .near)) (a .n) (node-parent .result) (c .before .before .before .if1 .left) (node-parent .ensures .0) (c .before .if2 .taken)
 
 returns-3 : tie.Need-returns-3
-returns-3 c = nearest-top (treeOf (now (c .before .before .before .before .before .before .args .image))) (now (c .before .before .before .before .before .before .args .near)) (c .before .before .before .before .before .before .args .n) (c .before .node-parent .result) (c .before .before .if1 .left) (c .before .node-parent .ensures .0) (c .if2 .left)
+returns-3 c =
+    let a = c .before .before .before .before .before .before .args in
+    let node-parent = c .before .node-parent in
+    nearest-top (treeOf (now (a .image))) (now (a .near)) (a .n) (node-parent .result) (c .before .before .if1 .left) (node-parent .ensures .0) (c .if2 .left)
 
 pub nearest-spec : {M : Type 1} → statement M
 nearest-spec =

@@ -31,7 +31,11 @@ returns-2 : tie.Need-returns-2
 returns-2 c = (c .before .before .before .before .before .before .before .before .before .pre .2, refl, refl)
 
 leap-of-requires : tie.Need-leap-of-requires
-leap-of-requires c κs = (c .before .before .before .before .before .before .before .before .before .before .before .pre .0, c .before .before .before .before .before .before .before .before .before .before .before .pre .1, c .before .before .before .before .before .before .before .before .before .before .before .pre .2, c .before .before .before .before .before .before .before .before .before .before .before .pre .3, directory-of (treeOf (now (c .before .before .before .before .before .before .before .before .before .before .before .args .image))) (c .before .before .before .before .before .before .before .before .before .before .before .args .n) (c .before .before .before .before .before .before .before .before .before .before .before .pre .4) (sym (c .before .before .before .node-kind .ensures .0) ∙ c .before .before .if2 .left))
+leap-of-requires c κs =
+    let a = c .before .before .before .before .before .before .before .before .before .before .before .args in
+    let p = c .before .before .before .before .before .before .before .before .before .before .before .pre in
+    let node-kind = c .before .before .before .node-kind in
+    (p .0, p .1, p .2, p .3, directory-of (treeOf (now (a .image))) (a .n) (p .4) (sym (node-kind .ensures .0) ∙ c .before .before .if2 .left))
 
 cast-leaps : tie.Need-cast-leaps
 cast-leaps c = omega (arith, c .leap-of .ensures .1)
@@ -43,7 +47,12 @@ slice-write-leaps : tie.Need-slice-write-leaps
 slice-write-leaps c = omega (arith, c .before .before .before .before .before .before .before .before .before .before .before .before .pre .2 .leaping .room)
 
 depth-of-requires : tie.Need-depth-of-requires
-depth-of-requires c κs = (c .before .before .before .before .before .before .before .before .before .before .before .before .before .pre .0, c .before .before .before .before .before .before .before .before .before .before .before .before .before .pre .1, c .before .before .before .before .before .before .before .before .before .before .before .before .before .pre .2 .filled, c .before .before .before .before .before .before .before .before .before .before .before .before .before .pre .3, directory-of (treeOf (now (c .before .before .before .before .before .before .before .before .before .before .before .before .before .args .image))) (c .before .before .before .before .before .before .before .before .before .before .before .before .before .args .n) (c .before .before .before .before .before .before .before .before .before .before .before .before .before .pre .4) (sym (c .before .before .before .before .before .node-kind .ensures .0) ∙ c .before .before .before .before .if2 .left))
+depth-of-requires c κs =
+    let a = c .before .before .before .before .before .before .before .before .before .before .before .before .before .args in
+    let p = c .before .before .before .before .before .before .before .before .before .before .before .before .before .pre in
+    let node-kind = c .before .before .before .before .before .node-kind in
+    let if2 = c .before .before .before .before .if2 in
+    (p .0, p .1, p .2 .filled, p .3, directory-of (treeOf (now (a .image))) (a .n) (p .4) (sym (node-kind .ensures .0) ∙ if2 .left))
 
 mul-depths : tie.Need-mul-depths
 mul-depths c = omega (arith, c .before .before .before .before .before .before .before .before .before .before .before .before .before .before .pre .0 .few-nodes)
@@ -59,8 +68,11 @@ same-length-2 c = search needs
 
 returns-3 : tie.Need-returns-3
 returns-3 c =
-    let leaps = leaps-more (treeOf (now (c .before .before .before .before .before .before .before .before .before .before .before .before .before .before .args .image))) (c .before .before .before .before .before .before .before .before .before .before .before .before .before .before .args .n) (c .before .before .leap-of .result) (now (c .before .before .before .before .before .before .before .before .before .before .before .before .before .before .args .leaps)) (c .before .before .before .before .before .before .before .before .before .before .before .before .before .before .pre .2 .leaping) (omega (arith, c .before .before .before .before .before .before .before .before .before .before .before .before .before .before .pre .2 .leaping .room)) (c .before .before .leap-of .ensures .0) in
-    (record { filled = c .before .before .before .before .before .before .before .before .before .before .before .before .before .before .pre .2 .filled; leaping = leaps }, length-set (now (c .before .before .before .before .before .before .before .before .before .before .before .before .before .before .args .leaps)) (c .before .before .before .before .before .before .before .before .before .before .before .before .before .before .args .n) (c .before .before .leap-of .result), length-set (now (c .before .before .before .before .before .before .before .before .before .before .before .before .before .before .args .depths)) (c .before .before .before .before .before .before .before .before .before .before .before .before .before .before .args .n) (c .depth-of .result))
+    let a = c .before .before .before .before .before .before .before .before .before .before .before .before .before .before .args in
+    let p = c .before .before .before .before .before .before .before .before .before .before .before .before .before .before .pre in
+    let leap-of = c .before .before .leap-of in
+    let leaps = leaps-more (treeOf (now (a .image))) (a .n) (leap-of .result) (now (a .leaps)) (p .2 .leaping) (omega (arith, p .2 .leaping .room)) (leap-of .ensures .0) in
+    (record { filled = p .2 .filled; leaping = leaps }, length-set (now (a .leaps)) (a .n) (leap-of .result), length-set (now (a .depths)) (a .n) (c .depth-of .result))
 
 pub note-leap-spec : {M : Type 1} → statement M
 note-leap-spec =

@@ -29,10 +29,20 @@ same-length : tie.Need-same-length
 same-length c = search needs
 
 returns : tie.Need-returns
-returns c = (rooted-more (treeOf (now (c .before .before .before .before .before .args .image))) (c .before .before .before .before .before .args .m) (c .before .before .mount-root .result) (now (c .before .before .before .before .before .args .near)) (c .before .before .before .before .before .pre .2) (c .before .before .mount-root .ensures .0) (omega (arith, c .before .before .before .before .before .pre .2 .room, c .before .before .before .before .before .pre .0 .nodes-are)), length-set (now (c .before .before .before .before .before .args .near)) (c .before .before .mount-root .result) (c .before .before .mount-root .result + 1))
+returns c =
+    let a = c .before .before .before .before .before .args in
+    let p = c .before .before .before .before .before .pre in
+    let mount-root = c .before .before .mount-root in (
+      rooted-more (treeOf (now (a .image))) (a .m) (mount-root .result) (now (a .near)) (p .2) (mount-root .ensures .0) (omega (arith, p .2 .room, p .0 .nodes-are)),
+      length-set (now (a .near)) (mount-root .result) (mount-root .result + 1),
+    )
 
 returns-2 : tie.Need-returns-2
-returns-2 c = (rooted-past (treeOf (now (c .before .before .before .before .before .args .image))) (c .before .before .before .before .before .args .m) (c .before .before .mount-root .result) (now (c .before .before .before .before .before .args .near)) (c .before .before .before .before .before .pre .2) (c .before .before .mount-root .ensures .0) (omega (arith, c .before .before .before .before .before .pre .0 .nodes-are)), refl)
+returns-2 c =
+    let a = c .before .before .before .before .before .args in
+    let p = c .before .before .before .before .before .pre in
+    let mount-root = c .before .before .mount-root in
+    (rooted-past (treeOf (now (a .image))) (a .m) (mount-root .result) (now (a .near)) (p .2) (mount-root .ensures .0) (omega (arith, p .0 .nodes-are)), refl)
 
 pub note-root-spec : {M : Type 1} → statement M
 note-root-spec =

@@ -29,7 +29,10 @@ loop-less : tie.Need-loop-less Inv-loop μ-loop
 loop-less c = omega arith
 
 loop-again : tie.Need-loop-again Inv-loop μ-loop
-loop-again c = (c .before .before .before .before .before .loop .inv .0, omega arith, c .before .before .note-root .ensures .0, c .before .before .note-root .ensures .1 ∙ c .before .before .before .before .before .loop .inv .3)
+loop-again c =
+    let l = c .before .before .before .before .before .loop in
+    let note-root = c .before .before .note-root in
+    (l .inv .0, omega arith, note-root .ensures .0, note-root .ensures .1 ∙ l .inv .3)
 
 same-length : tie.Need-same-length Inv-loop μ-loop
 same-length c = search needs

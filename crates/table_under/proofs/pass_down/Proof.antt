@@ -37,12 +37,15 @@ loop-less c = omega arith
 
 loop-again : tie.Need-loop-again Inv-loop μ-loop
 loop-again c =
-    let t = treeOf (now (c .before .before .before .before .before .before .args .image)) in
-    let n = c .before .before .before .loop .n in (
-      c .before .before .before .loop .inv .0,
+    let a = c .before .before .before .before .before .before .args in
+    let p = c .before .before .before .before .before .before .pre in
+    let l = c .before .before .before .loop in
+    let t = treeOf (now (a .image)) in
+    let n = l .n in (
+      l .inv .0,
       omega arith,
-      rw (c .nearest .ensures) (filled-more t (c .before .before .before .before .before .before .pre .1) n (c .before .before .before .loop .near) (c .before .before .before .loop .inv .2) (omega arith)),
-      length-set (c .before .before .before .loop .near) n (c .nearest .result) ∙ c .before .before .before .loop .inv .3,
+      rw (c .nearest .ensures) (filled-more t (p .1) n (l .near) (l .inv .2) (omega arith)),
+      length-set (l .near) n (c .nearest .result) ∙ l .inv .3,
     )
 
 same-length : tie.Need-same-length Inv-loop μ-loop

@@ -15,54 +15,78 @@ sub-wide : tie.Need-sub-wide
 sub-wide c = omega arith
 
 mul-wide : tie.Need-mul-wide
-mul-wide c = omega (arith, directory-below (treeOf (now (c .before .before .before .args .image))) (c .before .before .before .pre .1) (c .before .before .before .args .k - 1) (c .before .before .before .pre .6), c .before .before .before .pre .0 .few-nodes)
+mul-wide c =
+    let a = c .before .before .before .args in
+    let p = c .before .before .before .pre in
+    omega (arith, directory-below (treeOf (now (a .image))) (p .1) (a .k - 1) (p .6), p .0 .few-nodes)
 
 shared-slice-read-wide : tie.Need-shared-slice-read-wide
-shared-slice-read-wide c = omega (arith, directory-below (treeOf (now (c .before .before .before .before .args .image))) (c .before .before .before .before .pre .1) (c .before .before .before .before .args .k - 1) (c .before .before .before .before .pre .6), c .before .before .before .before .pre .2 .leaping .room)
+shared-slice-read-wide c =
+    let a = c .before .before .before .before .args in
+    let p = c .before .before .before .before .pre in
+    omega (arith, directory-below (treeOf (now (a .image))) (p .1) (a .k - 1) (p .6), p .2 .leaping .room)
 
 wide-requires : tie.Need-wide-requires
 wide-requires c κs = tt
 
 returns : tie.Need-returns
 returns c =
-    let t = treeOf (now (c .before .before .before .before .before .before .args .image)) in
-    let leap = c .before .before .before .before .before .before .pre .2 .leaping .leap (c .before .before .before .before .before .before .args .k - 1) (c .before .before .before .before .before .before .pre .6) in
-    let r = t .mountRoot (c .before .before .before .before .before .before .args .mount) in
-    (omega (arith, leap .low, c .before .wide .ensures .0), subst (Reached t (c .before .before .before .before .before .before .args .k - 1) r) (sym (c .before .wide .ensures .0)) (leap .reached (c .before .before .before .before .before .before .args .mount) (c .before .before .before .before .before .before .pre .3) (omega (arith, c .before .before .before .before .before .before .pre .4, c .before .wide .ensures .0))))
+    let a = c .before .before .before .before .before .before .args in
+    let p = c .before .before .before .before .before .before .pre in
+    let wide = c .before .wide in
+    let t = treeOf (now (a .image)) in
+    let leap = p .2 .leaping .leap (a .k - 1) (p .6) in
+    let r = t .mountRoot (a .mount) in
+    (omega (arith, leap .low, wide .ensures .0), subst (Reached t (a .k - 1) r) (sym (wide .ensures .0)) (leap .reached (a .mount) (p .3) (omega (arith, p .4, wide .ensures .0))))
 
 sub-node-parent : tie.Need-sub-node-parent
 sub-node-parent c = omega arith
 
 node-parent-requires : tie.Need-node-parent-requires
-node-parent-requires c κs = (c .before .before .before .before .before .before .pre .0, directory-below (treeOf (now (c .before .before .before .before .before .before .args .image))) (c .before .before .before .before .before .before .pre .1) (c .before .before .before .before .before .before .args .k - 1) (c .before .before .before .before .before .before .pre .6))
+node-parent-requires c κs =
+    let a = c .before .before .before .before .before .before .args in
+    let p = c .before .before .before .before .before .before .pre in
+    (p .0, directory-below (treeOf (now (a .image))) (p .1) (a .k - 1) (p .6))
 
 add-if2 : tie.Need-add-if2
 add-if2 c = omega (arith, c .node-parent .ensures .1)
 
 returns-2 : tie.Need-returns-2
 returns-2 c =
-    let t = treeOf (now (c .before .before .before .before .before .before .before .before .args .image)) in
-    (omega arith, step-top t (c .before .before .before .before .before .before .before .before .pre .1) (c .before .before .before .before .before .before .before .before .args .mount) (c .before .before .before .before .before .before .before .before .args .k - 1) (c .before .node-parent .result) (c .before .before .before .before .before .before .before .before .pre .3) (c .before .before .before .before .before .before .before .before .pre .6) (c .before .node-parent .ensures .0) (omega (arith, c .before .before .before .before .before .before .before .before .pre .4)) (omega arith))
+    let a = c .before .before .before .before .before .before .before .before .args in
+    let p = c .before .before .before .before .before .before .before .before .pre in
+    let node-parent = c .before .node-parent in
+    let t = treeOf (now (a .image)) in
+    (omega arith, step-top t (p .1) (a .mount) (a .k - 1) (node-parent .result) (p .3) (p .6) (node-parent .ensures .0) (omega (arith, p .4)) (omega arith))
 
 mul-wide-2 : tie.Need-mul-wide-2
 mul-wide-2 c = omega (arith, c .before .node-parent .ensures .1)
 
 shared-slice-read-wide-2 : tie.Need-shared-slice-read-wide-2
-shared-slice-read-wide-2 c = omega (arith, below-given (treeOf (now (c .before .before .before .before .before .before .before .before .before .args .image))) (c .before .before .before .before .before .before .before .before .before .pre .1) (c .before .before .before .before .before .before .before .before .before .args .k - 1) (c .before .before .node-parent .result) (c .before .before .before .before .before .before .before .before .before .pre .6) (c .before .before .node-parent .ensures .0), c .before .before .before .before .before .before .before .before .before .pre .2 .filled .room)
+shared-slice-read-wide-2 c =
+    let a = c .before .before .before .before .before .before .before .before .before .args in
+    let p = c .before .before .before .before .before .before .before .before .before .pre in
+    let node-parent = c .before .before .node-parent in
+    omega (arith, below-given (treeOf (now (a .image))) (p .1) (a .k - 1) (node-parent .result) (p .6) (node-parent .ensures .0), p .2 .filled .room)
 
 wide-requires-2 : tie.Need-wide-requires-2
 wide-requires-2 c κs = tt
 
 returns-3 : tie.Need-returns-3
 returns-3 c =
-    let t = treeOf (now (c .before .before .before .before .before .before .before .before .before .before .args .image)) in
-    let j = c .before .before .before .before .before .before .before .before .before .before .args .k - 1 in
-    let p = c .before .before .before .node-parent .result in
-    let is = c .before .before .before .node-parent .ensures .0 in
-    let past : t .mountRoot (c .before .before .before .before .before .before .before .before .before .before .args .mount) < j = omega (arith, c .before .before .before .before .before .before .before .before .before .before .pre .4) in
-    let near = c .before .before .before .before .before .before .before .before .before .before .pre .2 .filled .nearest p (below-given t (c .before .before .before .before .before .before .before .before .before .before .pre .1) j p (c .before .before .before .before .before .before .before .before .before .before .pre .6) is) (parent-given t (c .before .before .before .before .before .before .before .before .before .before .pre .1) j p (c .before .before .before .before .before .before .before .before .before .before .pre .6) is) in
-    let falls = step-falls t (c .before .before .before .before .before .before .before .before .before .before .pre .1) (c .before .before .before .before .before .before .before .before .before .before .args .mount) j p (c .before .before .before .before .before .before .before .before .before .before .pre .3) (c .before .before .before .before .before .before .before .before .before .before .pre .6) is past (λ e. c .before .before .if2 .left (omega arith)) in
-    (omega (arith, near .low, falls, c .wide2 .ensures .0), subst (Reached t j (t .mountRoot (c .before .before .before .before .before .before .before .before .before .before .args .mount))) (sym (c .wide2 .ensures .0)) (step-parent t (c .before .before .before .before .before .before .before .before .before .before .pre .1) (c .before .before .before .before .before .before .before .before .before .before .args .mount) j p (c .before .before .before .before .before .before .before .before .before .before .pre .3) (c .before .before .before .before .before .before .before .before .before .before .pre .6) is past _ near))
+    let a = c .before .before .before .before .before .before .before .before .before .before .args in
+    let pre- = c .before .before .before .before .before .before .before .before .before .before .pre in
+    let node-parent = c .before .before .before .node-parent in
+    let t = treeOf (now (a .image)) in
+    let j = a .k - 1 in
+    let p = node-parent .result in
+    let is = node-parent .ensures .0 in
+    let past : t .mountRoot (a .mount) < j = omega (arith, pre- .4) in
+    let near = pre- .2 .filled .nearest p (below-given t (pre- .1) j p (pre- .6) is) (parent-given t (pre- .1) j p (pre- .6) is) in
+    let falls = step-falls t (pre- .1) (a .mount) j p (pre- .3) (pre- .6) is past (λ e. c .before .before .if2 .left (omega arith)) in (
+      omega (arith, near .low, falls, c .wide2 .ensures .0),
+      subst (Reached t j (t .mountRoot (a .mount))) (sym (c .wide2 .ensures .0)) (step-parent t (pre- .1) (a .mount) j p (pre- .3) (pre- .6) is past _ near),
+    )
 
 pub step-up-spec : {M : Type 1} → statement M
 step-up-spec =
