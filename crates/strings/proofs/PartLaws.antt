@@ -34,3 +34,10 @@ not-in-part b s at from count l e =
     let there : at + (from - at) ≡ from = omega arith in
     let later : drop (from - at) (drop at s) ≡ drop from s = drop-drop (from - at) at s ∙ ap (λ (k : ℕ). drop k s) there in
     not-in-take b count (drop from s) (ap (contains b) (sym later) ∙ not-in-drop b (from - at) (drop at s) e)
+
+-- nor in a part of a part of it
+pub not-in-inner : (b : ℕ) (s : List ℕ) (at count from n : ℕ) → contains b (drop at s) ≡ false → contains b (part (part s at count) from n) ≡ false
+unfolding part
+not-in-inner b s at count from n e =
+    let inner = take count (drop at s) in
+    not-in-take b n (drop from inner) (not-in-drop b from inner (not-in-take b count (drop at s) e))

@@ -8,10 +8,10 @@ use borrow.Author.Tests.{eq-eqb, ne-eqb}
 use lib.Dec.{eqb, leb}
 use lib.ListN.{length, getD, drop}
 use Rattle.model.specs.Bytes.{contains, sameBytes, ascii}
-use Rattle.model.specs.Tree.{Tree, treeOf, textAt}
+use Rattle.model.specs.Tree.{Tree, sizesOf, textAt, textPart, treeOf}
 use Rattle.model.specs.TableCheck.{nameHolds}
 use Rattle.theorems.proofs.StringLaws.{contains-next, contains-end}
-use Rattle.strings.proofs.PartLaws.{not-in-part}
+use Rattle.strings.proofs.PartLaws.{not-in-inner}
 
 -- a zero byte or a slash
 abbrev pub forbids : List ℕ → Bool
@@ -87,6 +87,6 @@ unfolding nameHolds
 name-test t e = tests (leb (t .nameOffset e + t .nameLength e) (t .textLength) && leb 1 (t .nameLength e) && leb (t .nameLength e) 255) (contains 0 (t .name e)) (contains 47 (t .name e)) (sameBytes (t .name e) (ascii ".")) (sameBytes (t .name e) (ascii ".."))
 
 -- a name lies in the text
-pub name-clean : (b : ℕ) (s : List ℕ) (e : ℕ) → contains b (drop (textAt s) s) ≡ false → contains b (treeOf s .name e) ≡ false
-unfolding treeOf
-name-clean b s e h = not-in-part b s (textAt s) _ _ (omega arith) h
+pub name-clean : (b : ℕ) (s : List ℕ) (e : ℕ) → contains b (drop (textAt (sizesOf s)) s) ≡ false → contains b (treeOf s .name e) ≡ false
+unfolding treeOf textPart
+name-clean b s e h = not-in-inner b s (textAt (sizesOf s)) _ _ _ h

@@ -5,8 +5,8 @@ use mathlib.Core.List.{List}
 use mathlib.Core.Path.{_≡_}
 use lib.ListN.{drop}
 use Rattle.model.specs.Bytes.{contains}
-use Rattle.model.specs.Tree.{textAt}
+use Rattle.model.specs.Tree.{sizesOf, textAt}
 
 -- no zero byte
 abbrev pub NoZero : List ℕ → Type 0
-NoZero s = contains 0 (drop (textAt s) s) ≡ false
+NoZero s = contains 0 (drop (textAt (sizesOf s)) s) ≡ false
