@@ -109,7 +109,8 @@ fn root_above(image: &[u8], near: &[u16], n: usize) -> usize
     0
 }
 
-// The root above, or the one two leaps further up if both are of one length: so any root is a few leaps away.
+// The root above, or the one two leaps further up from it if both are of one length. So a root n roots up is some 2 log n steps away;
+// whatever is chosen, the answers are right.
 fn leap_of(image: &[u8], near: &[u16], leaps: &[u16], depths: &[u16], n: usize) -> usize
     requires { ⌜ Sized (now image) × NodesHold (treeOf (now image)) × Charted (treeOf (now image)) (now near) (now leaps)
         × (treeOf (now image) .nodes ≤ length (now depths)) × (isDirectory (treeOf (now image)) n ≡ true) ⌝ }
@@ -133,7 +134,7 @@ fn leap_of(image: &[u8], near: &[u16], leaps: &[u16], depths: &[u16], n: usize) 
     up
 }
 
-// How many roots are above. Tables have 256 mounts at most, so the rest changes no number.
+// How many roots are above. A table has 256 mounts at most, so that the remainder changes no number.
 fn depth_of(image: &[u8], near: &[u16], depths: &[u16], n: usize) -> u16
     requires { ⌜ Sized (now image) × NodesHold (treeOf (now image)) × Filled (treeOf (now image)) (treeOf (now image) .nodes) (now near)
         × (treeOf (now image) .nodes ≤ length (now depths)) × (isDirectory (treeOf (now image)) n ≡ true) ⌝ }
@@ -145,7 +146,7 @@ fn depth_of(image: &[u8], near: &[u16], depths: &[u16], n: usize) -> u16
     depths[up - 1] % 256 + 1
 }
 
-// Gives a root its leap.
+// Gives a root its leap. One that is no directory breaks rule 6 by itself, and is never asked.
 fn note_leap(image: &[u8], near: &[u16], leaps: &mut [u16], depths: &mut [u16], n: usize)
     requires { ⌜ Sized (now image) × NodesHold (treeOf (now image)) × Charted (treeOf (now image)) (now near) (now leaps)
         × (treeOf (now image) .nodes ≤ length (now depths)) × (n < treeOf (now image) .nodes) ⌝ }
@@ -174,7 +175,7 @@ fn fill_leaps(image: &[u8], c: Counts, near: &[u16], leaps: &mut [u16], depths: 
     }
 }
 
-// What the exact way goes by, in arrays that are all 0 at first.
+// What the exact way goes by. Arrays that are all 0 will do.
 pub fn chart(image: &[u8], c: Counts, near: &mut [u16], leaps: &mut [u16])
     requires { ⌜ Counted (now image) c × NodesHold (treeOf (now image)) × Rooted (treeOf (now image)) 0 (now near) × Leaps (treeOf (now image)) (now leaps) ⌝ }
     ensures { λ _. ⌜ Charted (treeOf (now (image .entry))) (now (near .exit)) (now (leaps .exit)) × (length (now (near .exit)) ≡ length (now (near .entry)))
