@@ -99,7 +99,7 @@ pub fn text_clean(image: &[u8], c: Counts, text: usize) -> bool
     requires { ⌜ Counted (now image) c × (text ≡ treeOf (now image) .textLength) ⌝ }
     ensures { λ r. ⌜ (r ≡ true → Clean (now (image .entry))) ⌝ }
 {
-    if 64 * c.entries < text + 1024 {
+    if c.entries < 16 + text / 64 {
         return false;
     }
     let at = text_at(image, c);

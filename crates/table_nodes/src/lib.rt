@@ -113,7 +113,7 @@ fn text_clean(image: &[u8], c: Counts, text: usize) -> bool
     requires { ⌜ Counted (now image) c × (text ≡ treeOf (now image) .textLength) ⌝ }
     ensures { λ r. ⌜ (r ≡ true → NoZero (now (image .entry))) ⌝ }
 {
-    if 32 * c.nodes < text + 512 {
+    if c.nodes < 16 + text / 32 {
         return false;
     }
     !holds_from(image, text_at(image, c), 0)

@@ -11,9 +11,6 @@ use Rattle.model.specs.Bytes.{contains}
 use Rattle.table_nodes.proofs.text_clean.Statement.{statement}
 use Rattle.table_nodes.proofs.text_clean.Tie as tie
 
-mul-if1 : tie.Need-mul-if1
-mul-if1 c = search needs
-
 add-if1 : tie.Need-add-if1
 add-if1 c = search needs
 
@@ -32,4 +29,4 @@ returns-2 c = λ e.
     ap (λ (k : ℕ). contains 0 (drop k s)) (sym (c .before .text-at .ensures .0)) ∙ sym (c .holds-from .ensures) ∙ not-true _ e
 
 pub text-clean-spec : {M : Type 1} → statement M
-text-clean-spec = tie.close (tie.spec mul-if1 add-if1 returns text-at-requires holds-from-requires returns-2)
+text-clean-spec = tie.close (tie.spec add-if1 returns text-at-requires holds-from-requires returns-2)

@@ -11,9 +11,6 @@ use Rattle.model.specs.Bytes.{contains}
 use Rattle.table_entries.proofs.names.text_clean.Statement.{statement}
 use Rattle.table_entries.proofs.names.text_clean.Tie as tie
 
-mul-if1 : tie.Need-mul-if1
-mul-if1 c = search needs
-
 add-if1 : tie.Need-add-if1
 add-if1 c = search needs
 
@@ -44,7 +41,6 @@ pub text-clean-spec : {M : Type 1} → statement M
 text-clean-spec =
     tie.close
     (tie.spec
-    mul-if1
     add-if1
     returns
     text-at-requires
