@@ -94,7 +94,8 @@ fn is_dots(s: &[u8]) -> bool
     s[1] == 46
 }
 
-// Whether the text is known to have no zero byte and no slash: it is read, once for all names, unless it is long beside the entries.
+// Whether the text is known to have no zero byte and no slash. It is read, once for all names, where that costs no more than it saves:
+// not where the entries are few or the text is long beside them.
 pub fn text_clean(image: &[u8], c: Counts, text: usize) -> bool
     requires { ⌜ Counted (now image) c × (text ≡ treeOf (now image) .textLength) ⌝ }
     ensures { λ r. ⌜ (r ≡ true → Clean (now (image .entry))) ⌝ }

@@ -108,7 +108,8 @@ fn directory_count(image: &[u8], n: usize, kind: usize) -> usize
     if kind == 1 { node_count(image, n) } else { 0 }
 }
 
-// Whether the text is known to have no zero byte: it is read, once for all bodies, unless it is long beside the node records.
+// Whether the text is known to have no zero byte. It is read, once for all bodies, where that costs no more than it saves: not where the
+// nodes are few or the text is long beside them.
 fn text_clean(image: &[u8], c: Counts, text: usize) -> bool
     requires { ⌜ Counted (now image) c × (text ≡ treeOf (now image) .textLength) ⌝ }
     ensures { λ r. ⌜ (r ≡ true → NoZero (now (image .entry))) ⌝ }
