@@ -1,4 +1,4 @@
--- A byte that does not stand in a string from a position on stands in no part of it from there on. Assumes nothing.
+-- A byte that does not stand in a string from a position on stands in no part of what is there. Assumes nothing.
 use Prim.Native.Nat.{ℕ, zero, suc, _+_, _-_, _≤_}
 use mathlib.Core.Bool.{Bool, true, false, _||_, true≢false}
 use mathlib.Core.List.{List, [], _∷_}
@@ -28,14 +28,7 @@ not-in-take b (suc n) (x ∷ s) e =
     let both = neither (eqb x b) (contains b s) e in
     rw (both .0, not-in-take b n s (both .1))
 
-pub not-in-part : (b : ℕ) (s : List ℕ) (at from count : ℕ) → at ≤ from → contains b (drop at s) ≡ false → contains b (part s from count) ≡ false
-unfolding part
-not-in-part b s at from count l e =
-    let there : at + (from - at) ≡ from = omega arith in
-    let later : drop (from - at) (drop at s) ≡ drop from s = drop-drop (from - at) at s ∙ ap (λ (k : ℕ). drop k s) there in
-    not-in-take b count (drop from s) (ap (contains b) (sym later) ∙ not-in-drop b (from - at) (drop at s) e)
-
--- nor in a part of a part of it
+-- A byte that does not stand from a position on stands in no part of a part from there.
 pub not-in-inner : (b : ℕ) (s : List ℕ) (at count from n : ℕ) → contains b (drop at s) ≡ false → contains b (part (part s at count) from n) ≡ false
 unfolding part
 not-in-inner b s at count from n e =

@@ -19,7 +19,7 @@ ghost use Prim.Native.Nat.{_+_, _-_, _<_};
 ghost use Rattle.model.specs.Tree.{treeOf, isDirectory};
 ghost use Rattle.model.specs.TableCheck.{countsBefore, nameHolds, ascends, standsInParent, entryHolds, rule5};
 ghost use Rattle.theorems.specs.Acceptance.{Sized, NodesHold};
-ghost use Rattle.theorems.proofs.EntryLaws.{Held};
+ghost use Rattle.theorems.specs.Held.{Held};
 ghost use Rattle.image.specs.Counts.{Counted};
 ghost use Rattle.image.specs.Searches.{searchOf};
 ghost use Rattle.table_entries.specs.Ranges.{badIn, badOf};

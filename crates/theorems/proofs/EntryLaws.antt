@@ -10,16 +10,11 @@ use lib.Dec.{eqb, ltb, leb}
 use Rattle.model.specs.Bytes.{before, find, isSome}
 use Rattle.model.specs.Tree.{Tree, isDirectory, isLink, holds}
 use Rattle.model.specs.TableCheck.{nodeHolds, follows, ascends, standsInParent}
+use Rattle.theorems.specs.Held.{Held}
 use Rattle.theorems.specs.Acceptance.{NodesHold}
 use Rattle.theorems.proofs.Acceptance.{directory-below, directory-kind, first-sum, counts-grow, counts-next}
 use Rattle.theorems.proofs.ByteLaws.{find-exists, find-absent}
 use Rattle.theorems.proofs.Cases.{both, below-or}
-
--- a directory and an entry of it
-pub record Held (t : Tree) (n e : ℕ) : Type 0 where
-  pub directory : isDirectory t n ≡ true
-  pub from : t .first n ≤ e
-  pub below : e < t .first n + t .count n
 
 pub holds-held : (t : Tree) (n e : ℕ) → holds t n e ≡ true → Held t n e
 unfolding holds

@@ -2,6 +2,7 @@
 pub mod Acceptance
 pub mod Adding
 pub mod Bounded
+pub mod Held
 pub mod Inside
 pub mod Ordered
 pub mod Witness
