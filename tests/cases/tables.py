@@ -34,6 +34,34 @@ def of_mounts(number_of_mounts):
     return t.image()
 
 
+def chain():
+    """0 top, 1 to 300 a chain below it, each in the one before, and 301 another top; mount 0 has root 0."""
+    t = Tree()
+    t.top()
+    for parent in range(300):
+        t.directory(parent)
+    t.top()
+    return t.mount(0)
+
+
+def of_deep_mounts(nested):
+    """The chain, and mounts 1 to 12 with roots 20, 40 and so on to 240: each in the one before, on node 300; or all in mount 0, on
+    nodes 299 down to 288."""
+    t = chain()
+    for k in range(1, 13):
+        t.mount(20 * k, *((k - 1, 300) if nested else (0, 300 - k)))
+    return t.image()
+
+
+def of_deep_links(last):
+    """The chain, mount 1 with root 150 on (0,10), and magic links as nodes 302 to 309: to (0,300), but for the last."""
+    t = chain().mount(150, 0, 10)
+    for _ in range(7):
+        t.magic(None, None, (0, 300))
+    t.magic(None, None, last)
+    return t.image()
+
+
 def of_entries(number_of_entries):
     """32 directories of 128 names each, one byte long, for one file: nodes 0 to 31, and 32. The first entries beyond 4,096 go to
     the last directory."""
@@ -350,6 +378,25 @@ check("rule-6-clash-far", mount(MOUNTS, 3, parent=0, point=1), broken(6, 3), "mo
 AGAIN = mount(mount(MOUNTS, 2, root=0), 3, parent=2, point=1)
 check("rule-6-same-point-other-parent", AGAIN, ACCEPTED, "mounts 1 and 3 on one node, in mounts 0 and 2")
 
+MANY = of_mounts(40)
+check("rule-6-many", MANY, ACCEPTED, "40 mounts, all but mount 0 in mount 0, mount m on node m")
+check("rule-6-many-clash-first", mount(MANY, 2, point=1), broken(6, 2), "of these, mounts 1 and 2 on one place")
+check("rule-6-many-clash-last", mount(MANY, 39, point=1), broken(6, 39), "of these, mounts 1 and 39 on one place")
+check("rule-6-many-clash-two", mount(mount(MANY, 38, point=7), 39, point=1), broken(6, 38), "of these, mounts 7 and 38, and mounts 1 and 39")
+check("rule-6-many-other-parent", mount(MANY, 39, parent=1, point=1), ACCEPTED, "of these, mounts 1 and 39 on one node, in mounts 0 and 1")
+
+says("Node n is under root r if following parents from n, n itself included, meets r.")
+DEEP, NESTED = of_deep_mounts(False), of_deep_mounts(True)
+check("rule-6-deep", DEEP, ACCEPTED, "a chain of 300 directories, 12 of them roots, of mounts at its end in mount 0")
+check("rule-6-deep-clash", mount(DEEP, 12, point=299), broken(6, 12), "the same, mounts 1 and 12 on one place")
+check("rule-6-deep-other-tree", mount(DEEP, 12, point=301), broken(6, 12), "the same, mount 12 on the other top")
+check("rule-6-deep-first", mount(mount(DEEP, 12, point=301), 5, point=301), broken(6, 5), "the same, mounts 5 and 12 on it")
+check("rule-6-deep-nested", NESTED, ACCEPTED, "the same chain and roots, each mount in the one before, on the last directory")
+check("rule-6-deep-nested-above", mount(NESTED, 12, point=219), broken(6, 12), "of these, mount 12 on 219, the parent of its parent's root")
+check("rule-6-deep-nested-root", mount(NESTED, 12, point=220), broken(6, 12), "of these, mount 12 on 220, its parent's root")
+check("rule-6-deep-nested-below", mount(NESTED, 12, point=221), ACCEPTED, "of these, mount 12 on 221, below its parent's root")
+check("rule-6-deep-nested-other-tree", mount(NESTED, 12, point=301), broken(6, 12), "of these, mount 12 on the other top")
+
 # ---------------------------------------------------------------------------------------------------------------------------------
 group("The table check, rule 7", "A magic link as node 0 or as node 4; one mount.")
 FIRST, LAST = first_node(MAGIC), last_node(MAGIC)
@@ -378,6 +425,12 @@ check("rule-7-mount-3", node(LAYERED, 15, first=3, count=11), ACCEPTED, "`layere
 check("rule-7-mount-2-beside", node(LAYERED, 15, first=2, count=8), broken(7, 15), "`layered`, node 15 to (2,8), under mount 1's root and not mount 2's")
 check("rule-7-mount-6-above", node(LAYERED, 15, first=6, count=0), broken(7, 15), "`layered`, node 15 to (6,0), under mount 0's root and not mount 6's")
 check("rule-7-second-mount-top", of_two_magic((0, 1), (1, 3)), broken(7, 5), "node 4 to (0,1), node 5 to a top of no mount, in mount 1")
+check("rule-7-deep", of_deep_links((0, 300)), ACCEPTED, "eight magic links to the end of a chain of 300 directories")
+check("rule-7-deep-mount-1", of_deep_links((1, 300)), ACCEPTED, "the same, the last by mount 1, whose root is 150")
+check("rule-7-deep-mount-1-root", of_deep_links((1, 150)), ACCEPTED, "the same, the last to (1,150), that root")
+check("rule-7-deep-mount-1-above", of_deep_links((1, 149)), broken(7, 309), "the same, the last to (1,149), above that root")
+check("rule-7-deep-other-tree", of_deep_links((0, 301)), broken(7, 309), "the same, the last to the other top")
+check("rule-7-deep-first", node(of_deep_links((0, 301)), 305, count=301), broken(7, 305), "the same, node 305 to it too")
 
 # ---------------------------------------------------------------------------------------------------------------------------------
 group("The table check, which rule and record")

@@ -1,11 +1,11 @@
 // The checks of the directory handle, whose numbers may be any.
-use image::records::Counts;
 use image::records::mount_root;
-use image::search::Search;
 use model::Errno;
 use model::Handle;
 use open_how::Check;
 use open_how::refuse;
+use parts::records::Counts;
+use parts::search::Search;
 use tree::find_mount;
 use tree::is_directory;
 use tree::is_under;

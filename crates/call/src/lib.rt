@@ -4,13 +4,13 @@ pub mod path;
 
 use crate::handle::check_handle;
 use crate::path::check_path;
-use image::records::Counts;
 use model::Handle;
 use model::Refusal;
 use open_how::Check;
 use open_how::How;
 use open_how::HowRead;
 use open_how::read_how;
+use parts::records::Counts;
 ghost use mathlib.Core.Path.{_≡_};
 ghost use Rattle.model.specs.TableCheck.{tableCheck};
 ghost use Rattle.model.specs.declared.Verdict.the-variants.{Accepted};

@@ -7,7 +7,7 @@ use Rattle.model.specs.TableCheck.{tableCheck}
 use Rattle.model.specs.declared.Verdict.the-variants.{Accepted}
 use Rattle.theorems.specs.Inside.{Inside}
 use Rattle.image.specs.Counts.{Counted}
-use Rattle.image.specs.declared.records.Counts.{Counts}
+use Rattle.parts.specs.declared.records.Counts.{Counts}
 use Rattle.component.specs.declared.Ask.{Ask}
 
 -- an accepted table, with its counts

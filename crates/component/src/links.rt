@@ -1,7 +1,6 @@
 // Following a link: its events under the restrictions, and where it leads.
 use crate::Ask;
 use crate::Outcome;
-use image::records::Counts;
 use image::records::node_count;
 use image::records::node_first;
 use image::texts::body;
@@ -13,6 +12,7 @@ use open_how::NO_MAGICLINKS;
 use open_how::NO_SYMLINKS;
 use open_how::NO_XDEV;
 use open_how::has;
+use parts::records::Counts;
 use text::is_absolute;
 ghost use mathlib.Core.Bool.{not, _&&_, _||_};
 ghost use lib.Dec.{eqb, ltb};

@@ -1,17 +1,17 @@
 // Moves with no link in them: entering a mount, and "..".
 use crate::Ask;
 use crate::Outcome;
-use image::records::Counts;
 use image::records::mount_parent;
 use image::records::mount_point;
 use image::records::mount_root;
 use image::records::node_parent;
-use image::search::Search;
 use model::Errno;
 use model::Place;
 use open_how::BENEATH;
 use open_how::NO_XDEV;
 use open_how::has;
+use parts::records::Counts;
+use parts::search::Search;
 use tree::find_mount;
 ghost use mathlib.Core.Bool.{true};
 ghost use mathlib.Core.Path.{_≡_};

@@ -5,7 +5,7 @@ use mathlib.Core.Path.{_≡_, ap}
 use Rattle.model.specs.Tree.{treeOf}
 use Rattle.theorems.specs.Acceptance.{Sized}
 use Rattle.image.specs.Counts.{countsOf, Counted}
-use Rattle.image.specs.declared.records.Counts.{Counts}
+use Rattle.parts.specs.declared.records.Counts.{Counts}
 
 pub counted : {s : List ℕ} {c : Counts} → Sized s → c ≡ countsOf s → Counted s c
 unfolding treeOf

@@ -4,7 +4,7 @@ use mathlib.Core.List.{List}
 use mathlib.Core.Path.{_≡_}
 use Rattle.model.specs.Tree.{sizesOf, treeOf}
 use Rattle.theorems.specs.Acceptance.{Sized}
-use Rattle.image.specs.declared.records.Counts.{Counts}
+use Rattle.parts.specs.declared.records.Counts.{Counts}
 
 abbrev pub countsOf : List ℕ → Counts
 countsOf s = record { nodes = sizesOf s .nodes; mounts = sizesOf s .mounts; entries = sizesOf s .entries }

@@ -1,5 +1,5 @@
-// Reads a table image: the fields of each record by its number, and names and link bodies as parts of the lent image. Each
-// function is equated with the tree that the image stands for.
+// Reads a table image: its header's counts, the four parts that these cut from it, and for the walk the fields of each record by its
+// number. Each function is equated with the tree that the image stands for.
 pub mod records;
-pub mod search;
+pub mod slices;
 pub mod texts;

@@ -2,6 +2,7 @@
 // check has seen before it reads a record.
 use fields::u16_at;
 use fields::u32_at;
+use parts::records::Counts;
 ghost use mathlib.Core.Path.{_≡_};
 ghost use Prim.Native.Nat.{ℕ, _+_, _*_, _^_, _≤_, _<_};
 ghost use lib.ListN.{length};
@@ -10,12 +11,6 @@ ghost use Rattle.theorems.specs.Acceptance.{Sized};
 ghost use Rattle.image.specs.Counts.{countsOf, Counted};
 
 // The header's counts: where mounts, entries and text begin follows from them.
-pub struct Counts {
-    pub nodes: usize,
-    pub mounts: usize,
-    pub entries: usize,
-}
-
 pub fn read_counts(image: &[u8]) -> Counts
     requires { ⌜ 20 ≤ length (now image) ⌝ }
     ensures { λ r. ⌜ r ≡ countsOf (now (image .entry)) ⌝ }
@@ -121,13 +116,6 @@ pub fn packed_point(image: &[u8], c: Counts, m: usize) -> usize
     ensures { λ r. ⌜ (r ≡ treeOf (now (image .entry)) .mountParent m + 65536 * treeOf (now (image .entry)) .mountPoint m) × (treeOf (now (image .entry)) .mountParent m < 2 ^ 16) ⌝ }
 {
     u32_at(image, mount_at(image, c, m) + 2)
-}
-
-pub fn mount_zero(image: &[u8], c: Counts, m: usize) -> usize
-    requires { ⌜ Counted (now image) c × (m < treeOf (now image) .mounts) ⌝ }
-    ensures { λ r. ⌜ (r ≡ treeOf (now (image .entry)) .mountZero m) × (r < 2 ^ 16) ⌝ }
-{
-    u16_at(image, mount_at(image, c, m) + 6)
 }
 
 pub fn name_offset(image: &[u8], c: Counts, e: usize) -> usize

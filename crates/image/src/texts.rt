@@ -1,10 +1,10 @@
 // Names and link bodies, as parts of the lent image.
-use crate::records::Counts;
 use crate::records::name_length;
 use crate::records::name_offset;
 use crate::records::node_count;
 use crate::records::node_first;
 use crate::records::text_at;
+use parts::records::Counts;
 ghost use mathlib.Core.Path.{_≡_};
 ghost use Prim.Native.Nat.{_+_, _≤_, _<_};
 ghost use Rattle.model.specs.Tree.{treeOf};

@@ -5,7 +5,7 @@ use mathlib.Core.List.{map}
 use mathlib.Core.Path.{_≡_, refl}
 use Rattle.model.specs.Bytes.{field, fieldBytes, part, has, contains, sameBytes, before, find, firstFailing, ascii}
 use Rattle.model.specs.Tree.{sizesOf, nodesPart, mountsPart, entriesPart, textPart, treeOf, isDirectory, isLink, holds, lookup, meetsWithin, under, mountOn, covered}
-use Rattle.model.specs.TableCheck.{rule1, rule2, countsFit, wholeLength, rule3, directoryCount, countsBefore, directoryHolds, fileHolds, symlinkHolds, magicHolds, nodeHolds, rule4, nameHolds, follows, ascends, standsInParent, entryHolds, rule5, pointHolds, sharesPoint, hangs, mountHolds, rule6, targetHolds, magicTargetHolds, rule7, recordsCheck, tableCheck}
+use Rattle.model.specs.TableCheck.{rule1, rule2, countsFit, wholeLength, rule3, directoryCount, sumBelow, countsBefore, directoryHolds, fileHolds, symlinkHolds, magicHolds, nodeHolds, rule4, nameHolds, follows, ascends, standsInParent, entryHolds, rule5, pointHolds, sharesPoint, hangs, mountHolds, rule6, targetHolds, magicTargetHolds, rule7, recordsCheck, tableCheck}
 use Rattle.model.specs.OpenHow.{flagsOf, modeOf, paddingOf, resolveOf, unknownBit, tailSet, bothScopes, modeSet, howRefused}
 use Rattle.model.specs.Path.{upToSlash, componentsFrom, components, absolute, endsInSlash, pathRefused}
 use Rattle.model.specs.Handles.{handleRefused}
@@ -26,7 +26,7 @@ pub record Worked : Type 0 where
 pub worked : Worked
 unfolding field fieldBytes part has contains sameBytes before find firstFailing ascii
     sizesOf nodesPart mountsPart entriesPart textPart treeOf isDirectory isLink holds lookup meetsWithin under mountOn covered
-    rule1 rule2 countsFit wholeLength rule3 directoryCount countsBefore directoryHolds fileHolds symlinkHolds magicHolds nodeHolds rule4 nameHolds follows ascends standsInParent entryHolds rule5 pointHolds sharesPoint hangs mountHolds rule6 targetHolds magicTargetHolds rule7 recordsCheck tableCheck
+    rule1 rule2 countsFit wholeLength rule3 directoryCount sumBelow countsBefore directoryHolds fileHolds symlinkHolds magicHolds nodeHolds rule4 nameHolds follows ascends standsInParent entryHolds rule5 pointHolds sharesPoint hangs mountHolds rule6 targetHolds magicTargetHolds rule7 recordsCheck tableCheck
     flagsOf modeOf paddingOf resolveOf unknownBit tailSet bothScopes modeSet howRefused
     upToSlash componentsFrom components absolute endsInSlash pathRefused handleRefused
     meets row firstSet forbids answer stoodOn

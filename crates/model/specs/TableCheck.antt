@@ -39,10 +39,14 @@ rule3 s =
 unfoldable pub directoryCount : Tree → ℕ → ℕ
 directoryCount t n = cond (eqb (t .kind n) 1) (t .count n) 0
 
+-- the sum of what a function gives for the numbers below n
+unfoldable pub sumBelow : (ℕ → ℕ) → ℕ → ℕ
+sumBelow f zero = 0
+sumBelow f (suc n) = sumBelow f n + f n
+
 -- "the sum of earlier directories' counts"
 unfoldable pub countsBefore : Tree → ℕ → ℕ
-countsBefore t zero = 0
-countsBefore t (suc n) = countsBefore t n + directoryCount t n
+countsBefore t n = sumBelow (λ k. directoryCount t k) n
 
 -- "A directory's parent is a directory numbered no higher than itself (equal: the top of a tree); its first is the sum of
 -- earlier directories' counts."

@@ -48,7 +48,7 @@ pub record Tree : Type 0 where
   pub mounts : ℕ
   pub entries : ℕ
   pub textLength : ℕ
-  -- a node's fields; body: "body is count text bytes at offset first"
+  -- a node's fields, and a symbolic link's body
   pub kind : ℕ → ℕ
   pub parent : ℕ → ℕ
   pub first : ℕ → ℕ
@@ -65,28 +65,69 @@ pub record Tree : Type 0 where
   pub name : ℕ → List ℕ
   pub entryNode : ℕ → ℕ
 
--- "Node: u16 kind, u16 parent, u32 first, u32 count.", 12 bytes; "Mount: u16 root node, u16 parent mount, u16 mount point node, u16
--- zero.", 8 bytes; "Entry: u32 name offset, u16 name length, u16 node.", 8 bytes: the tree that counts, node, mount and entry records
--- and a text stand for
+-- "Node: u16 kind, u16 parent, u32 first, u32 count.", 12 bytes: a record's fields, by its number
+abbrev pub kindIn : List ℕ → ℕ → ℕ
+kindIn nodes n = field 2 nodes (12 * n)
+
+abbrev pub parentIn : List ℕ → ℕ → ℕ
+parentIn nodes n = field 2 nodes (12 * n + 2)
+
+abbrev pub firstIn : List ℕ → ℕ → ℕ
+firstIn nodes n = field 4 nodes (12 * n + 4)
+
+abbrev pub countIn : List ℕ → ℕ → ℕ
+countIn nodes n = field 4 nodes (12 * n + 8)
+
+-- "body is count text bytes at offset first"
+abbrev pub bodyIn : List ℕ → List ℕ → ℕ → List ℕ
+bodyIn nodes text n = part text (firstIn nodes n) (countIn nodes n)
+
+-- "Mount: u16 root node, u16 parent mount, u16 mount point node, u16 zero.", 8 bytes
+abbrev pub mountRootIn : List ℕ → ℕ → ℕ
+mountRootIn mounts m = field 2 mounts (8 * m)
+
+abbrev pub mountParentIn : List ℕ → ℕ → ℕ
+mountParentIn mounts m = field 2 mounts (8 * m + 2)
+
+abbrev pub mountPointIn : List ℕ → ℕ → ℕ
+mountPointIn mounts m = field 2 mounts (8 * m + 4)
+
+abbrev pub mountZeroIn : List ℕ → ℕ → ℕ
+mountZeroIn mounts m = field 2 mounts (8 * m + 6)
+
+-- "Entry: u32 name offset, u16 name length, u16 node.", 8 bytes
+abbrev pub nameOffsetIn : List ℕ → ℕ → ℕ
+nameOffsetIn entries e = field 4 entries (8 * e)
+
+abbrev pub nameLengthIn : List ℕ → ℕ → ℕ
+nameLengthIn entries e = field 2 entries (8 * e + 4)
+
+abbrev pub entryNodeIn : List ℕ → ℕ → ℕ
+entryNodeIn entries e = field 2 entries (8 * e + 6)
+
+abbrev pub nameIn : List ℕ → List ℕ → ℕ → List ℕ
+nameIn entries text e = part text (nameOffsetIn entries e) (nameLengthIn entries e)
+
+-- the tree that counts, node, mount and entry records and a text stand for
 abbrev pub treeOfParts : Sizes → List ℕ → List ℕ → List ℕ → List ℕ → Tree
 treeOfParts c nodes mounts entries text = record {
   nodes = c .nodes;
   mounts = c .mounts;
   entries = c .entries;
   textLength = c .text;
-  kind = λ n. field 2 nodes (12 * n);
-  parent = λ n. field 2 nodes (12 * n + 2);
-  first = λ n. field 4 nodes (12 * n + 4);
-  count = λ n. field 4 nodes (12 * n + 8);
-  body = λ n. part text (field 4 nodes (12 * n + 4)) (field 4 nodes (12 * n + 8));
-  mountRoot = λ m. field 2 mounts (8 * m);
-  mountParent = λ m. field 2 mounts (8 * m + 2);
-  mountPoint = λ m. field 2 mounts (8 * m + 4);
-  mountZero = λ m. field 2 mounts (8 * m + 6);
-  nameOffset = λ e. field 4 entries (8 * e);
-  nameLength = λ e. field 2 entries (8 * e + 4);
-  name = λ e. part text (field 4 entries (8 * e)) (field 2 entries (8 * e + 4));
-  entryNode = λ e. field 2 entries (8 * e + 6);
+  kind = kindIn nodes;
+  parent = parentIn nodes;
+  first = firstIn nodes;
+  count = countIn nodes;
+  body = bodyIn nodes text;
+  mountRoot = mountRootIn mounts;
+  mountParent = mountParentIn mounts;
+  mountPoint = mountPointIn mounts;
+  mountZero = mountZeroIn mounts;
+  nameOffset = nameOffsetIn entries;
+  nameLength = nameLengthIn entries;
+  name = nameIn entries text;
+  entryNode = entryNodeIn entries;
 }
 
 -- the tree that an image stands for
@@ -117,15 +158,15 @@ unfoldable pub lookup : Tree → ℕ → List ℕ → Option ℕ
 lookup t n name = find (λ e. sameBytes (t .name e) name) (t .first n) (t .count n)
 
 -- "Node n is under root r if following parents from n, n itself included, meets r.": steps is how many parents are followed
-unfoldable pub meetsWithin : ℕ → Tree → ℕ → ℕ → Bool
-meetsWithin zero t n r = eqb n r
-meetsWithin (suc steps) t n r =
-    let further = meetsWithin steps t (t .parent n) r in
+unfoldable pub meetsWithin : ℕ → (ℕ → ℕ) → ℕ → ℕ → Bool
+meetsWithin zero parent n r = eqb n r
+meetsWithin (suc steps) parent n r =
+    let further = meetsWithin steps parent (parent n) r in
     eqb n r || further
 
 -- no chain of parents has more nodes than the tree
 unfoldable pub under : Tree → ℕ → ℕ → Bool
-under t n r = meetsWithin (t .nodes) t n r
+under t n r = meetsWithin (t .nodes) (t .parent) n r
 
 -- "A place is covered if it is the point, in the parent mount, of a mount other than mount 0.": that mount, if there is one
 unfoldable pub mountOn : Tree → Place → Option ℕ

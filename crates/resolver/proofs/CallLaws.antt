@@ -22,7 +22,7 @@ use Rattle.theorems.proofs.Cases.{cond-cases}
 use Rattle.theorems.specs.Inside.{Inside}
 use Rattle.theorems.proofs.Inside.{root-inside}
 use Rattle.theorems.proofs.Refusals.{unrefused, path-short, handle-inside}
-use Rattle.image.specs.declared.records.Counts.{Counts}
+use Rattle.parts.specs.declared.records.Counts.{Counts}
 use Rattle.component.specs.Walking.{Reading, Walking}
 use Rattle.component.specs.declared.Ask.{Ask}
 use Rattle.model.specs.Resolve.{refusedBefore, restrictions, requestOf, traceOf, resolve}

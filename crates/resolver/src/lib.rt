@@ -2,7 +2,6 @@
 use call::CallRead;
 use call::check_call;
 use component::Ask;
-use image::records::Counts;
 use image::records::mount_root;
 use image::records::read_counts;
 use model::Answer;
@@ -19,6 +18,7 @@ use open_how::O_DIRECTORY;
 use open_how::O_NOFOLLOW;
 use open_how::O_PATH;
 use open_how::has;
+use parts::records::Counts;
 use state::finish;
 use state::refuse;
 use table::check;

@@ -1,6 +1,5 @@
 // What becomes of a walk's state: a component taken, a place stood on, a link followed, a refusal, and the end.
 use component::Ask;
-use image::records::Counts;
 use image::records::node_kind;
 use model::Answer;
 use model::Errno;
@@ -9,6 +8,7 @@ use model::Progress;
 use model::Reached;
 use model::Refusal;
 use model::State;
+use parts::records::Counts;
 ghost use mathlib.Core.Bool.{_||_};
 ghost use mathlib.Core.Path.{_≡_};
 ghost use Prim.Native.Nat.{ℕ, _<_};

@@ -1,21 +1,21 @@
 -- Laws of strings compared by blocks, each over the block's width. Assumes nothing.
 use Prim.Native.Nat.{ℕ, zero, suc, _+_, _*_, _^_, _≤_, _<_}
-use mathlib.Core.Bool.{Bool, true, false}
+use mathlib.Core.Bool.{Bool, true, false, not}
 use mathlib.Core.List.{List}
 use mathlib.Core.Logic.{⊎-elim}
 use mathlib.Core.Path.{_≡_, refl, sym, ap, ap₂, _∙_, subst}
 use native.Mathlib.Nat.{eq-or-lt-of-le, add-zero, add-suc, pow-suc}
 use native.Mathlib.Numerals.{add-one}
 use native.Mathlib.Omega.{arith}
-use borrow.Author.Tests.{eq-eqb, ne-eqb, le-ltb, lt-ltb, eqb-true, eqb-false, ltb-true, ltb-false}
+use borrow.Author.Tests.{eq-eqb, ne-eqb, le-ltb, lt-ltb, eqb-true, eqb-false, ltb-true, ltb-false, not-true, not-false}
 use lib.Dec.{eqb, ltb}
 use lib.ListN.{length, getD, drop}
 use lib.Seq.{ext-getD}
 use Rattle.model.specs.Bytes.{field, sameBytes, before}
 use Rattle.theorems.proofs.ByteLaws.{field-ext, field-same, field-split}
-use Rattle.theorems.proofs.Cases.{below-or}
+use Rattle.theorems.proofs.Cases.{below-or, cond-cases}
 use Rattle.theorems.proofs.StringLaws.{same-equal, equal-same, before-next, before-short, before-ended}
-use Rattle.strings.specs.Blocks.{bigEndian, SameTo, Deciding}
+use Rattle.strings.specs.Blocks.{bigEndian, SameTo, Deciding, differ, firstDiffering}
 
 abbrev pub Bytes : List ℕ → Type 0
 Bytes s = (i : ℕ) → getD s i 0 < 256
@@ -38,10 +38,10 @@ unfolding bigEndian
 big-two s at = rw (add-zero at) (omega arith)
 
 -- what two strings have in common, a block further
-pub further : (s t : List ℕ) (n at width : ℕ) → SameTo s t n → at ≤ n → Alike s t at width → SameTo s t (at + width)
-further s t n at width known l block i h = ⊎-elim (λ (q : i < n). known i q) (λ (q : n ≤ i). block i (omega arith) h) (below-or i n)
+further : (s t : List ℕ) (at width : ℕ) → SameTo s t at → Alike s t at width → SameTo s t (at + width)
+further s t at width known block i h = ⊎-elim (λ (q : i < at). known i q) (λ (q : at ≤ i). block i q h) (below-or i at)
 
-pub not-further : (s t : List ℕ) (n m : ℕ) → SameTo s t n → m ≤ n → SameTo s t m
+not-further : (s t : List ℕ) (n m : ℕ) → SameTo s t n → m ≤ n → SameTo s t m
 not-further s t n m known l i h = known i (omega arith)
 
 module _ (s t : List ℕ) (hs : Bytes s) (ht : Bytes t) where
@@ -137,35 +137,103 @@ same-not width s t at h = by (sameBytes s t) refl
     by false e = refl
     by true e = absurd (h (ap (λ (u : List ℕ). field width u at) (same-equal s t e)))
 
--- of two blocks that meet or overlap, the second decides where the first ones are the same
-pub second-decides : (width : ℕ) (s t : List ℕ) (last : ℕ) → Bytes s → Bytes t → last ≤ width → field width s 0 ≡ field width t 0
-    → Deciding width s t last last
-second-decides width s t last hs ht l e = record {
-  within = omega arith;
-  alike = λ i h. field-same width s t 0 hs ht e i (omega arith) (omega arith);
-  differs = λ h f. omega arith;
-}
+-- whether a block differs, by its two numbers
+module _ (width : ℕ) (s t : List ℕ) (at : ℕ) where
+  block-same : differ width s t at ≡ false → field width s at ≡ field width t at
+  unfolding differ
+  block-same e = eqb-true _ _ (not-false _ e)
 
--- of a block that decides between two strings, the half that does
-module _ {s t : List ℕ} {half short last at : ℕ} where
-  pub lower-half : Deciding (half + half) s t short at → short + half ≡ last → (field half s at ≡ field half t at → ⊥) → Deciding half s t last at
-  lower-half block fits other = record { within = omega (arith, block .within); alike = block .alike; differs = λ h f. other f }
+  block-other : differ width s t at ≡ true → field width s at ≡ field width t at → ⊥
+  unfolding differ
+  block-other e = eqb-false _ _ (not-true _ e)
 
-  pub upper-half : Bytes s → Bytes t → Deciding (half + half) s t short at → short + half ≡ last → field half s at ≡ field half t at
-      → Deciding half s t last (at + half)
-  upper-half hs ht block fits e = record {
+  -- and by what two loads read
+  module _ {x y : ℕ} (ex : x ≡ field width s at) (ey : y ≡ field width t at) where
+    pub loads-tell : not (eqb x y) ≡ differ width s t at
+    unfolding differ
+    loads-tell = rw (ex, ey)
+
+    pub loads-same : x ≡ y → differ width s t at ≡ false
+    loads-same e = sym loads-tell ∙ ap not (eq-eqb x y e)
+
+    pub loads-differ : (x ≡ y → ⊥) → differ width s t at ≡ true
+    loads-differ h = sym loads-tell ∙ ap not (ne-eqb x y h)
+
+-- a block is the same where its lower and its upper part are
+parts-same : (low high : ℕ) (s t : List ℕ) (at : ℕ) → field low s at ≡ field low t at → field high s (at + low) ≡ field high t (at + low)
+    → field (low + high) s at ≡ field (low + high) t at
+parts-same low high s t at e f = field-split low high s at ∙ ap₂ (λ (x y : ℕ). x + 256 ^ low * y) e f ∙ sym (field-split low high t at)
+
+-- looking for the block that decides, one block after the other
+module _ (width : ℕ) (s t : List ℕ) (at : ℕ) (known : SameTo s t at) where
+  pub decides-here : {last : ℕ} → at ≤ last → differ width s t at ≡ true → Deciding width s t last at
+  decides-here l e = record { within = l; alike = known; differs = λ h. block-other width s t at e }
+
+  pub decides-later : Bytes s → Bytes t → differ width s t at ≡ false → SameTo s t (at + width)
+  decides-later hs ht e = further s t at width known (field-same width s t at hs ht (block-same width s t at e))
+
+  pub decides-last : {last : ℕ} → last ≤ at → Deciding width s t last last
+  decides-last {last} l = record { within = omega arith; alike = not-further s t at last known l; differs = λ h f. omega arith }
+
+-- of a block that decides between two strings, the part that does
+module _ (low high : ℕ) {s t : List ℕ} {short last at : ℕ} (block : Deciding (low + high) s t short at) where
+  pub lower-part : short + high ≡ last → differ low s t at ≡ true → Deciding low s t last at
+  lower-part fits e = decides-here low s t at (block .alike) (omega (arith, block .within)) e
+
+  pub upper-part : Bytes s → Bytes t → short + low ≡ last → differ low s t at ≡ false → Deciding high s t last (at + low)
+  upper-part hs ht fits e = record {
     within = omega (arith, block .within);
-    alike = further s t at at half (block .alike) (omega arith) (field-same half s t at hs ht e);
-    differs = λ h f. block .differs (omega arith)
-        (field-split half half s at ∙ ap₂ (λ (x y : ℕ). x + 256 ^ half * y) e f ∙ sym (field-split half half t at));
+    alike = decides-later low s t at (block .alike) hs ht e;
+    differs = λ h f. block .differs (omega arith) (parts-same low high s t at (block-same low s t at e) f);
   }
+
+-- the first of the blocks side by side that differs
+module _ (width more : ℕ) (s t : List ℕ) (at : ℕ) {x y : ℕ} (ex : x ≡ field width s at) (ey : y ≡ field width t at) where
+  pub first-here : (x ≡ y → ⊥) → firstDiffering width (suc more) s t at ≡ at
+  unfolding firstDiffering
+  first-here h = rw (loads-differ width s t at ex ey h)
+
+  pub first-later : x ≡ y → (next : ℕ) → at + width ≡ next → firstDiffering width (suc more) s t at ≡ firstDiffering width more s t next
+  unfolding firstDiffering
+  first-later e next f = rw (loads-same width s t at ex ey e, f)
+
+module _ (s t : List ℕ) (hs : Bytes s) (ht : Bytes t) where
+  -- a block differs where a part of it does
+  pub differ-inside : (width inner at far : ℕ) → at ≤ far → far + inner ≤ at + width → differ inner s t far ≡ true → differ width s t at ≡ true
+  differ-inside width inner at far l u e =
+      loads-differ width s t at refl refl
+      (λ q. block-other inner s t far e (field-ext inner s t far (λ i k h. field-same width s t at hs ht q i (omega arith) (omega arith))))
+
+  -- and where its lower part is the same, as its upper part does
+  pub differ-later : (low high at next : ℕ) → at + low ≡ next → differ low s t at ≡ false → differ (low + high) s t at ≡ differ high s t next
+  differ-later low high at next f e = rw (← f) (by (differ high s t (at + low)) refl)
+    where
+      by : (b : Bool) → differ high s t (at + low) ≡ b → differ (low + high) s t at ≡ b
+      by true h = differ-inside (low + high) high at (at + low) (omega arith) (omega arith) h
+      by false h = loads-same (low + high) s t at refl refl (parts-same low high s t at (block-same low s t at e) (block-same high s t (at + low) h))
+
+  -- of a wide block that decides between two strings, the first of its blocks that differs, or the last of them, does
+  pub first-decides : (width more : ℕ) {short last at : ℕ} → short + more * width ≡ last → Deciding (width + more * width) s t short at
+      → Deciding width s t last (firstDiffering width more s t at)
+  unfolding firstDiffering
+  first-decides width zero {short} {last} fits block =
+      let e : width + 0 * width ≡ width = omega arith in
+      let f : short ≡ last = omega arith in
+      rw (← f) (rw e at block)
+  first-decides width (suc more) {short} {last} {at} fits block =
+      let high = width + more * width in
+      let whole : width + suc more * width ≡ width + high = omega arith in
+      let wide : Deciding (width + high) s t short at = rw whole at block in
+      cond-cases (Deciding width s t last) (differ width s t at) at (firstDiffering width more s t (at + width))
+      (lower-part width high wide (omega arith))
+      (λ e. first-decides width more (omega arith) (upper-part width high wide hs ht refl e))
 
 -- the deciding block decides
 module _ (width : ℕ) (s t : List ℕ) (hs : Bytes s) (ht : Bytes t) (last at : ℕ) (block : Deciding width s t last at) where
   to-the-last : Alike s t at width → SameTo s t (last + width)
   to-the-last h =
       ⊎-elim
-      (λ (q : at ≡ last). subst (λ (k : ℕ). SameTo s t (k + width)) q (further s t at at width (block .alike) (omega arith) h))
+      (λ (q : at ≡ last). subst (λ (k : ℕ). SameTo s t (k + width)) q (further s t at width (block .alike) h))
       (λ (q : at < last). absurd (block .differs q (field-ext width s t at h)))
       (eq-or-lt-of-le (block .within))
 

@@ -1,12 +1,10 @@
--- A byte that does not stand in a string from a position on stands in no part of what is there. Assumes nothing.
-use Prim.Native.Nat.{ℕ, zero, suc, _+_, _-_, _≤_}
+-- A byte that does not stand in a string stands in no part of it. Assumes nothing.
+use Prim.Native.Nat.{ℕ, zero, suc}
 use mathlib.Core.Bool.{Bool, true, false, _||_, true≢false}
 use mathlib.Core.List.{List, [], _∷_}
-use mathlib.Core.Path.{_≡_, refl, sym, ap, _∙_}
-use native.Mathlib.Omega.{arith}
+use mathlib.Core.Path.{_≡_, refl}
 use lib.Dec.{eqb}
 use lib.ListN.{take, drop}
-use lib.Seq.{drop-drop}
 use Rattle.model.specs.Bytes.{part, contains}
 
 -- both parts of a disjunction that does not hold
@@ -28,9 +26,6 @@ not-in-take b (suc n) (x ∷ s) e =
     let both = neither (eqb x b) (contains b s) e in
     rw (both .0, not-in-take b n s (both .1))
 
--- A byte that does not stand from a position on stands in no part of a part from there.
-pub not-in-inner : (b : ℕ) (s : List ℕ) (at count from n : ℕ) → contains b (drop at s) ≡ false → contains b (part (part s at count) from n) ≡ false
+pub not-in-part : (b : ℕ) (s : List ℕ) (at count : ℕ) → contains b s ≡ false → contains b (part s at count) ≡ false
 unfolding part
-not-in-inner b s at count from n e =
-    let inner = take count (drop at s) in
-    not-in-take b n (drop from inner) (not-in-drop b from inner (not-in-take b count (drop at s) e))
+not-in-part b s at count e = not-in-take b count (drop at s) (not-in-drop b at s e)

@@ -1,7 +1,9 @@
 -- Strings compared by blocks of a few bytes.
 use Prim.Native.Nat.{ℕ, zero, suc, _+_, _*_, _≤_, _<_}
+use mathlib.Core.Bool.{Bool, cond, not}
 use mathlib.Core.List.{List}
 use mathlib.Core.Path.{_≡_}
+use lib.Dec.{eqb}
 use lib.ListN.{getD}
 use Rattle.model.specs.Bytes.{field}
 
@@ -19,3 +21,12 @@ pub record Deciding (width : ℕ) (s t : List ℕ) (last at : ℕ) : Type 0 wher
   pub within : at ≤ last
   pub alike : SameTo s t at
   pub differs : at < last → field width s at ≡ field width t at → ⊥
+
+-- whether two strings differ in the width bytes at a position
+unfoldable pub differ : ℕ → List ℕ → List ℕ → ℕ → Bool
+differ width s t at = not (eqb (field width s at) (field width t at))
+
+-- of the blocks side by side from a position on, one and so many more, the first that differs, or the last of them
+unfoldable pub firstDiffering : (width more : ℕ) → List ℕ → List ℕ → ℕ → ℕ
+firstDiffering width zero s t at = at
+firstDiffering width (suc more) s t at = cond (differ width s t at) at (firstDiffering width more s t (at + width))

@@ -1,11 +1,11 @@
-// Strings compared by blocks of four or eight bytes, each a single load. What decides is the first block that differs, or the last
-// one, which may overlap the one before it so that no bytes are left over.
+// Strings compared by blocks of four or eight bytes, each a single load, and long ones by four such loads at a time. What decides
+// is the first block that differs, or the last one, which may overlap the one before it so that no bytes are left over.
 use fields::u32_at;
 use fields::u64_at;
 ghost use mathlib.Core.Path.{_≡_};
 ghost use Prim.Native.Nat.{ℕ, _+_, _^_, _≤_, _<_};
 ghost use lib.ListN.{length};
-ghost use Rattle.strings.specs.Blocks.{bigEndian, Deciding};
+ghost use Rattle.strings.specs.Blocks.{bigEndian, Deciding, differ, firstDiffering};
 
 fn big16_at(s: &[u8], at: usize) -> u64
     requires { ⌜ at + 2 ≤ length (now s) ⌝ }
@@ -45,6 +45,72 @@ pub fn deciding_eight(a: &[u8], b: &[u8], last: usize) -> usize
     last
 }
 
+// Whether the 32 bytes from `i` on differ.
+fn differs(a: &[u8], b: &[u8], i: usize) -> bool
+    requires { ⌜ (i + 32 ≤ length (now a)) × (i + 32 ≤ length (now b)) ⌝ }
+    ensures { λ r. ⌜ r ≡ differ 32 (now (a .entry)) (now (b .entry)) i ⌝ }
+{
+    if u64_at(a, i) != u64_at(b, i) {
+        return true;
+    }
+    if u64_at(a, i + 8) != u64_at(b, i + 8) {
+        return true;
+    }
+    if u64_at(a, i + 16) != u64_at(b, i + 16) {
+        return true;
+    }
+    u64_at(a, i + 24) != u64_at(b, i + 24)
+}
+
+fn deciding_thirty_two(a: &[u8], b: &[u8], last: usize) -> usize
+    requires { ⌜ (last + 32 ≤ length (now a)) × (last + 32 ≤ length (now b)) ⌝ }
+    ensures { λ r. ⌜ Deciding 32 (now (a .entry)) (now (b .entry)) last r ⌝ }
+{
+    let mut i = 0;
+    while i < last {
+        if differs(a, b, i) {
+            return i;
+        }
+        i += 32;
+    }
+    last
+}
+
+// Of the 32 bytes at `at` the first block of eight that differs, or the last of the four.
+fn eight_within(a: &[u8], b: &[u8], at: usize) -> usize
+    requires { ⌜ (at + 32 ≤ length (now a)) × (at + 32 ≤ length (now b)) ⌝ }
+    ensures { λ r. ⌜ r ≡ firstDiffering 8 3 (now (a .entry)) (now (b .entry)) at ⌝ }
+{
+    if u64_at(a, at) != u64_at(b, at) {
+        return at;
+    }
+    if u64_at(a, at + 8) != u64_at(b, at + 8) {
+        return at + 8;
+    }
+    if u64_at(a, at + 16) != u64_at(b, at + 16) {
+        return at + 16;
+    }
+    at + 24
+}
+
+// By 32 bytes at a time: the last 32 end where the last eight do.
+fn deciding_far(a: &[u8], b: &[u8], last: usize) -> usize
+    requires { ⌜ (24 ≤ last) × (last + 8 ≤ length (now a)) × (last + 8 ≤ length (now b)) ⌝ }
+    ensures { λ r. ⌜ Deciding 8 (now (a .entry)) (now (b .entry)) last r ⌝ }
+{
+    eight_within(a, b, deciding_thirty_two(a, b, last - 24))
+}
+
+fn deciding_long(a: &[u8], b: &[u8], last: usize) -> usize
+    requires { ⌜ (last + 8 ≤ length (now a)) × (last + 8 ≤ length (now b)) ⌝ }
+    ensures { λ r. ⌜ Deciding 8 (now (a .entry)) (now (b .entry)) last r ⌝ }
+{
+    if last < 24 {
+        return deciding_eight(a, b, last);
+    }
+    deciding_far(a, b, last)
+}
+
 // The four bytes that decide. A block of eight that decides is halved: its bytes highest first are not read by a single load.
 pub fn deciding(a: &[u8], b: &[u8], last: usize) -> usize
     requires { ⌜ (last + 4 ≤ length (now a)) × (last + 4 ≤ length (now b)) ⌝ }
@@ -53,7 +119,7 @@ pub fn deciding(a: &[u8], b: &[u8], last: usize) -> usize
     if last < 4 {
         return deciding_four(a, b, last);
     }
-    let at = deciding_eight(a, b, last - 4);
+    let at = deciding_long(a, b, last - 4);
     if u32_at(a, at) != u32_at(b, at) {
         return at;
     }

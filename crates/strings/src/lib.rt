@@ -9,7 +9,7 @@ use fields::u32_at;
 use fields::u64_at;
 ghost use mathlib.Core.Path.{_≡_};
 ghost use Prim.Native.Nat.{_≤_, _<_};
-ghost use lib.ListN.{length, drop};
+ghost use lib.ListN.{length};
 ghost use Rattle.model.specs.Bytes.{contains, sameBytes, before};
 
 // No early exit: the loop is then compiled to vector code.
@@ -50,14 +50,6 @@ pub fn holds_byte(s: &[u8], b: u8) -> bool
         return short_holds(s, b);
     }
     long_holds(s, b)
-}
-
-// Whether a byte stands in a string from a position on.
-pub fn holds_from(s: &[u8], at: usize, b: u8) -> bool
-    requires { ⌜ at ≤ length (now s) ⌝ }
-    ensures { λ r. ⌜ r ≡ contains b (drop at (now (s .entry))) ⌝ }
-{
-    holds_byte(&s[at..], b)
 }
 
 // Byte by byte, for the shortest.

@@ -1,1 +1,4 @@
+mod CutLaws
+mod PartLaws
+mod RuleLaws
 mod WholeLaws

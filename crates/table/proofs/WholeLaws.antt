@@ -4,7 +4,7 @@ use mathlib.Core.Path.{_≡_}
 use native.Mathlib.Omega.{arith}
 use Rattle.model.specs.Tree.{Sizes}
 use Rattle.model.specs.TableCheck.{wholeLength}
-use Rattle.image.specs.declared.records.Counts.{Counts}
+use Rattle.parts.specs.declared.records.Counts.{Counts}
 
 pub whole-is : (c : Counts) (t : Sizes) (text : ℕ) → c .nodes ≡ t .nodes → c .mounts ≡ t .mounts → c .entries ≡ t .entries → text ≡ t .text
     → 20 + 12 * c .nodes + 8 * c .mounts + 8 * c .entries + text ≡ wholeLength t

@@ -1,11 +1,14 @@
 // The table check: an image of any bytes and any length to accepted, or to the lowest rule broken with the lowest record.
 use fields::u16_at;
 use fields::u32_at;
-use image::records::Counts;
 use image::records::read_counts;
 use image::records::text_length;
-use image::search::Search;
+use image::slices::entries;
+use image::slices::mounts;
+use image::slices::nodes;
 use model::Verdict;
+use parts::records::Counts;
+use parts::search::Search;
 use strings::same;
 use table_entries::first_bad_entry;
 use table_mounts::first_bad_mount;
@@ -17,9 +20,10 @@ ghost use Prim.Native.Nat.{ℕ, _^_, _≤_, _<_};
 ghost use lib.Dec.{eqb};
 ghost use lib.ListN.{length, take};
 ghost use Rattle.model.specs.Bytes.{field, sameBytes, ascii};
-ghost use Rattle.model.specs.Tree.{sizesOf, treeOf};
+ghost use Rattle.model.specs.Tree.{sizesOf};
 ghost use Rattle.model.specs.TableCheck.{countsFit, wholeLength, recordsCheck, tableCheck};
-ghost use Rattle.image.specs.Counts.{Counted, countsOf};
+ghost use Rattle.parts.specs.Parts.{partsTree, NodeRecords, MountRecords, EntryRecords};
+ghost use Rattle.image.specs.Counts.{countsOf};
 
 // Rule 2.
 fn is_signed(image: &[u8]) -> bool
@@ -59,24 +63,24 @@ fn sizes_fit(image: &[u8], c: Counts, text: usize) -> bool
     image.len() == whole
 }
 
-// Rules 4 to 7, each on what the ones before it have seen.
-fn check_records(image: &[u8], c: Counts, text: usize) -> Verdict
-    requires { ⌜ Counted (now image) c × (text ≡ treeOf (now image) .textLength) ⌝ }
-    ensures { λ r. ⌜ r ≡ recordsCheck (treeOf (now (image .entry))) ⌝ }
+// Rules 4 to 7 on four parts, each on what the ones before it have seen.
+pub fn check_records(nodes: &[u8], mounts: &[u8], entries: &[u8], text: &[u8], c: Counts) -> Verdict
+    requires { ⌜ NodeRecords c (now nodes) × MountRecords c (now mounts) × EntryRecords c (now entries) ⌝ }
+    ensures { λ r. ⌜ r ≡ recordsCheck (partsTree c (now (nodes .entry)) (now (mounts .entry)) (now (entries .entry)) (now (text .entry))) ⌝ }
 {
-    let node = first_bad_node(image, c, text);
+    let node = first_bad_node(nodes, text, c);
     if let Search::At(n) = node {
         return Verdict::Broken { rule: 4, record: n };
     }
-    let entry = first_bad_entry(image, c, text);
+    let entry = first_bad_entry(nodes, entries, text, c);
     if let Search::At(e) = entry {
         return Verdict::Broken { rule: 5, record: e };
     }
-    let mount = first_bad_mount(image, c);
+    let mount = first_bad_mount(nodes, mounts, c);
     if let Search::At(m) = mount {
         return Verdict::Broken { rule: 6, record: m };
     }
-    let target = first_bad_target(image, c);
+    let target = first_bad_target(nodes, mounts, c);
     if let Search::At(n) = target {
         return Verdict::Broken { rule: 7, record: n };
     }
@@ -101,5 +105,11 @@ pub fn check(image: &[u8]) -> Verdict
     if !sizes_fit(image, c, text) {
         return Verdict::Broken { rule: 3, record: 0 };
     }
-    check_records(image, c, text)
+    check_records(
+        nodes(image),
+        mounts(image, c),
+        entries(image, c),
+        image::slices::text(image, c),
+        c,
+    )
 }

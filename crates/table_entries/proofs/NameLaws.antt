@@ -1,17 +1,20 @@
--- Laws of names: forbidden bytes from a position on, and the names "." and "..". Assumes nothing.
-use Prim.Native.Nat.{ℕ, zero, suc, _+_, _≤_, _<_}
+-- Laws of names: forbidden bytes from a position on, the names "." and "..", and names in a text seen to be clean. Assumes nothing.
+use Prim.Native.Nat.{ℕ, _+_, _/_, _≤_, _<_}
 use mathlib.Core.Bool.{Bool, true, false, not, _&&_, _||_, and-true, and-false}
 use mathlib.Core.List.{List, [], _∷_}
-use mathlib.Core.Path.{_≡_, refl, sym, ap, ap₂, _∙_}
+use mathlib.Core.Path.{_≡_, refl, ap, ap₂, _∙_}
 use native.Mathlib.Omega.{arith}
-use borrow.Author.Tests.{eq-eqb, ne-eqb}
+use borrow.Author.Tests.{eq-eqb, ne-eqb, not-true}
 use lib.Dec.{eqb, leb}
 use lib.ListN.{length, getD, drop}
-use Rattle.model.specs.Bytes.{contains, sameBytes, ascii}
-use Rattle.model.specs.Tree.{Tree, sizesOf, textAt, textPart, treeOf}
+use Rattle.model.specs.Bytes.{contains, sameBytes, ascii, part}
+use Rattle.model.specs.Tree.{Tree}
 use Rattle.model.specs.TableCheck.{nameHolds}
+use Rattle.theorems.proofs.Cases.{both}
 use Rattle.theorems.proofs.StringLaws.{contains-next, contains-end}
-use Rattle.strings.proofs.PartLaws.{not-in-inner}
+use Rattle.parts.specs.declared.records.Counts.{Counts}
+use Rattle.strings.proofs.PartLaws.{not-in-part}
+use Rattle.table_entries.specs.Texts.{seenClean}
 
 -- a zero byte or a slash
 abbrev pub forbids : List ℕ → Bool
@@ -82,11 +85,20 @@ tests false a b c d = refl
 
 -- the sentence on names: where the name lies and how long it is, then its bytes
 pub name-test : (t : Tree) (e : ℕ)
-    → nameHolds t e ≡ ((leb (t .nameOffset e + t .nameLength e) (t .textLength) && leb 1 (t .nameLength e) && leb (t .nameLength e) 255) && (not (forbids (t .name e)) && not (dots (t .name e))))
+    → nameHolds t e
+    ≡ ((leb (t .nameOffset e + t .nameLength e) (t .textLength) && leb 1 (t .nameLength e) && leb (t .nameLength e) 255)
+    && (not (forbids (t .name e)) && not (dots (t .name e))))
 unfolding nameHolds
-name-test t e = tests (leb (t .nameOffset e + t .nameLength e) (t .textLength) && leb 1 (t .nameLength e) && leb (t .nameLength e) 255) (contains 0 (t .name e)) (contains 47 (t .name e)) (sameBytes (t .name e) (ascii ".")) (sameBytes (t .name e) (ascii ".."))
+name-test t e =
+    let placed = leb (t .nameOffset e + t .nameLength e) (t .textLength) && leb 1 (t .nameLength e) && leb (t .nameLength e) 255 in
+    let s = t .name e in
+    tests placed (contains 0 s) (contains 47 s) (sameBytes s (ascii ".")) (sameBytes s (ascii ".."))
 
--- a name lies in the text
-pub name-clean : (b : ℕ) (s : List ℕ) (e : ℕ) → contains b (drop (textAt (sizesOf s)) s) ≡ false → contains b (treeOf s .name e) ≡ false
-unfolding treeOf textPart
-name-clean b s e h = not-in-inner b s (textAt (sizesOf s)) _ _ _ h
+pub name-clean : (c : Counts) (text : List ℕ) (at n : ℕ) → seenClean c text ≡ true
+    → (contains 0 (part text at n) ≡ false) × (contains 47 (part text at n) ≡ false)
+unfolding seenClean
+name-clean c text at n e =
+    let many = leb (16 + length text / 64) (c .entries) in
+    let a = both (many && not (contains 0 text)) (not (contains 47 text)) e in
+    let b = both many (not (contains 0 text)) (a .0) in
+    (not-in-part 0 text at n (not-true _ (b .1)), not-in-part 47 text at n (not-true _ (a .1)))

@@ -1,12 +1,12 @@
--- What the text of an image holds.
-use Prim.Native.Nat.{ℕ}
-use mathlib.Core.Bool.{false}
+-- What is seen of the text before names are.
+use Prim.Native.Nat.{ℕ, _+_, _/_}
+use mathlib.Core.Bool.{Bool, not, _&&_}
 use mathlib.Core.List.{List}
-use mathlib.Core.Path.{_≡_}
-use lib.ListN.{drop}
+use lib.Dec.{leb}
+use lib.ListN.{length}
 use Rattle.model.specs.Bytes.{contains}
-use Rattle.model.specs.Tree.{sizesOf, textAt}
+use Rattle.parts.specs.declared.records.Counts.{Counts}
 
--- no zero byte and no slash
-abbrev pub Clean : List ℕ → Type 0
-Clean s = (contains 0 (drop (textAt (sizesOf s)) s) ≡ false) × (contains 47 (drop (textAt (sizesOf s)) s) ≡ false)
+-- that it has no zero byte and no slash, where there are entries enough beside its length
+unfoldable pub seenClean : Counts → List ℕ → Bool
+seenClean c text = leb (16 + length text / 64) (c .entries) && not (contains 0 text) && not (contains 47 text)

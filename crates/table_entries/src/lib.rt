@@ -4,47 +4,49 @@ mod names;
 
 use crate::names::name_holds;
 use crate::names::text_clean;
-use image::records::Counts;
-use image::records::entry_node;
-use image::records::node_count;
-use image::records::node_first;
-use image::records::node_kind;
-use image::records::node_parent;
-use image::search::Search;
-use image::texts::name;
+use parts::records::Counts;
+use parts::records::entry_node;
+use parts::records::node_count;
+use parts::records::node_first;
+use parts::records::node_kind;
+use parts::records::node_parent;
+use parts::search::Search;
+use parts::texts::name;
 use strings::comes_before;
 ghost use mathlib.Core.Bool.{true};
+ghost use mathlib.Core.List.{[]};
 ghost use mathlib.Core.Path.{_≡_};
-ghost use Prim.Native.Nat.{_+_, _-_, _<_};
-ghost use Rattle.model.specs.Tree.{treeOf, isDirectory};
-ghost use Rattle.model.specs.TableCheck.{countsBefore, nameHolds, ascends, standsInParent, entryHolds, rule5};
-ghost use Rattle.theorems.specs.Acceptance.{Sized, NodesHold};
+ghost use Prim.Native.Nat.{_-_, _<_};
+ghost use Rattle.model.specs.Tree.{isDirectory, firstIn, countIn, entryNodeIn};
+ghost use Rattle.model.specs.TableCheck.{nameHolds, standsInParent, entryHolds, rule5};
 ghost use Rattle.theorems.specs.Held.{Held};
-ghost use Rattle.image.specs.Counts.{Counted};
-ghost use Rattle.image.specs.Searches.{searchOf};
-ghost use Rattle.table_entries.specs.Ranges.{badIn, badOf};
-ghost use Rattle.table_entries.specs.Texts.{Clean};
+ghost use Rattle.parts.specs.Parts.{entriesTree, NodeRecords};
+ghost use Rattle.parts.specs.Searches.{searchOf};
+ghost use Rattle.table_entries.specs.Given.{Given, Named};
+ghost use Rattle.table_entries.specs.Ranges.{badIn, badOf, ascendsFrom, endsEntries};
+ghost use Rattle.table_entries.specs.Texts.{seenClean};
 
 // `first` is the first entry of the directory that holds the entry.
-fn entry_ascends(image: &[u8], c: Counts, n: usize, first: usize, e: usize) -> bool
-    requires { ⌜ Counted (now image) c × NodesHold (treeOf (now image)) × Held (treeOf (now image)) n e × (first ≡ treeOf (now image) .first n) × (nameHolds (treeOf (now image)) e ≡ true) × (first < e → nameHolds (treeOf (now image)) (e - 1) ≡ true) ⌝ }
-    ensures { λ r. ⌜ r ≡ ascends (treeOf (now (image .entry))) e ⌝ }
+fn entry_ascends(entries: &[u8], text: &[u8], first: usize, e: usize) -> bool
+    requires { ⌜ Named (now entries) (now text) e × (first < e → Named (now entries) (now text) (e - 1)) ⌝ }
+    ensures { λ r. ⌜ r ≡ ascendsFrom (now (entries .entry)) (now (text .entry)) first e ⌝ }
 {
     if e <= first {
         return true;
     }
-    comes_before(name(image, c, e - 1), name(image, c, e))
+    comes_before(name(entries, text, e - 1), name(entries, text, e))
 }
 
-// An entry that names a directory stands in its parent, with a higher number.
-fn stands_in_parent(image: &[u8], n: usize, e: usize, node: usize) -> bool
-    requires { ⌜ Sized (now image) × NodesHold (treeOf (now image)) × Held (treeOf (now image)) n e × (node ≡ treeOf (now image) .entryNode e) × (node < treeOf (now image) .nodes) ⌝ }
-    ensures { λ r. ⌜ r ≡ standsInParent (treeOf (now (image .entry))) e ⌝ }
+// An entry that names a directory stands in its parent, with a higher number. `n` is the directory that holds the entry.
+fn stands_in_parent(nodes: &[u8], entries: &[u8], c: Counts, n: usize, e: usize) -> bool
+    requires { ⌜ Given c (now nodes) (now entries) [] × Held (entriesTree c (now nodes) (now entries) []) n e × (entryNodeIn (now entries) e < c .nodes) ⌝ }
+    ensures { λ r. ⌜ r ≡ standsInParent (entriesTree c (now (nodes .entry)) (now (entries .entry)) []) e ⌝ }
 {
-    if node_kind(image, node) != 1 {
+    let node = entry_node(entries, e);
+    if node_kind(nodes, node) != 1 {
         return true;
     }
-    let parent = node_parent(image, node);
+    let parent = node_parent(nodes, node);
     if parent != n {
         return false;
     }
@@ -52,39 +54,51 @@ fn stands_in_parent(image: &[u8], n: usize, e: usize, node: usize) -> bool
 }
 
 fn entry_holds(
-    image: &[u8],
+    nodes: &[u8],
+    entries: &[u8],
+    text: &[u8],
     c: Counts,
-    text: usize,
     n: usize,
     first: usize,
     e: usize,
     clean: bool,
 ) -> bool
-    requires { ⌜ Counted (now image) c × NodesHold (treeOf (now image)) × Held (treeOf (now image)) n e × (first ≡ treeOf (now image) .first n) × (text ≡ treeOf (now image) .textLength) × (first < e → nameHolds (treeOf (now image)) (e - 1) ≡ true) × (clean ≡ true → Clean (now image)) ⌝ }
-    ensures { λ r. ⌜ r ≡ entryHolds (treeOf (now (image .entry))) e ⌝ }
+    requires { ⌜ Given c (now nodes) (now entries) (now text) × Held (entriesTree c (now nodes) (now entries) (now text)) n e
+        × (first ≡ firstIn (now nodes) n) × (first < e → nameHolds (entriesTree c (now nodes) (now entries) (now text)) (e - 1) ≡ true)
+        × (clean ≡ seenClean c (now text)) ⌝ }
+    ensures { λ r. ⌜ r ≡ entryHolds (entriesTree c (now (nodes .entry)) (now (entries .entry)) (now (text .entry))) e ⌝ }
 {
-    if !name_holds(image, c, text, e, clean) {
+    if !name_holds(entries, text, c, e, clean) {
         return false;
     }
-    let node = entry_node(image, c, e);
+    let node = entry_node(entries, e);
     if c.nodes <= node {
         return false;
     }
-    if !entry_ascends(image, c, n, first, e) {
+    if !entry_ascends(entries, text, first, e) {
         return false;
     }
-    stands_in_parent(image, n, e, node)
+    stands_in_parent(nodes, entries, c, n, e)
 }
 
-fn bad_in_directory(image: &[u8], c: Counts, text: usize, n: usize, clean: bool) -> Search
-    requires { ⌜ Counted (now image) c × NodesHold (treeOf (now image)) × (isDirectory (treeOf (now image)) n ≡ true) × (text ≡ treeOf (now image) .textLength) × (clean ≡ true → Clean (now image)) ⌝ }
-    ensures { λ r. ⌜ r ≡ searchOf (badIn (treeOf (now (image .entry))) (treeOf (now (image .entry)) .first n) (treeOf (now (image .entry)) .count n)) ⌝ }
+fn bad_in_directory(
+    nodes: &[u8],
+    entries: &[u8],
+    text: &[u8],
+    c: Counts,
+    n: usize,
+    clean: bool,
+) -> Search
+    requires { ⌜ Given c (now nodes) (now entries) (now text) × (isDirectory (entriesTree c (now nodes) (now entries) (now text)) n ≡ true)
+        × (clean ≡ seenClean c (now text)) ⌝ }
+    ensures { λ r. ⌜ r ≡ searchOf (badIn (entriesTree c (now (nodes .entry)) (now (entries .entry)) (now (text .entry)))
+        (firstIn (now (nodes .entry)) n) (countIn (now (nodes .entry)) n)) ⌝ }
 {
-    let first = node_first(image, n);
-    let end = first + node_count(image, n);
+    let first = node_first(nodes, n);
+    let end = first + node_count(nodes, n);
     let mut e = first;
     while e < end {
-        if !entry_holds(image, c, text, n, first, e, clean) {
+        if !entry_holds(nodes, entries, text, c, n, first, e, clean) {
             return Search::At(e);
         }
         e += 1;
@@ -92,39 +106,46 @@ fn bad_in_directory(image: &[u8], c: Counts, text: usize, n: usize, clean: bool)
     Search::Nowhere
 }
 
-fn bad_in_node(image: &[u8], c: Counts, text: usize, n: usize, clean: bool) -> Search
-    requires { ⌜ Counted (now image) c × NodesHold (treeOf (now image)) × (n < treeOf (now image) .nodes) × (text ≡ treeOf (now image) .textLength) × (clean ≡ true → Clean (now image)) ⌝ }
-    ensures { λ r. ⌜ r ≡ searchOf (badOf (treeOf (now (image .entry))) n) ⌝ }
+fn bad_in_node(
+    nodes: &[u8],
+    entries: &[u8],
+    text: &[u8],
+    c: Counts,
+    n: usize,
+    clean: bool,
+) -> Search
+    requires { ⌜ Given c (now nodes) (now entries) (now text) × (n < c .nodes) × (clean ≡ seenClean c (now text)) ⌝ }
+    ensures { λ r. ⌜ r ≡ searchOf (badOf (entriesTree c (now (nodes .entry)) (now (entries .entry)) (now (text .entry))) n) ⌝ }
 {
-    if node_kind(image, n) != 1 {
+    if node_kind(nodes, n) != 1 {
         return Search::Nowhere;
     }
-    bad_in_directory(image, c, text, n, clean)
+    bad_in_directory(nodes, entries, text, c, n, clean)
 }
 
 // Whether a directory has the last entry: the nodes after it have none.
-fn ends_entries(image: &[u8], c: Counts, n: usize) -> bool
-    requires { ⌜ Counted (now image) c × NodesHold (treeOf (now image)) × (n < treeOf (now image) .nodes) ⌝ }
-    ensures { λ r. ⌜ (r ≡ true → countsBefore (treeOf (now (image .entry))) (n + 1) ≡ treeOf (now (image .entry)) .entries) ⌝ }
+fn ends_entries(nodes: &[u8], c: Counts, n: usize) -> bool
+    requires { ⌜ NodeRecords c (now nodes) × (n < c .nodes) ⌝ }
+    ensures { λ r. ⌜ r ≡ endsEntries c (now (nodes .entry)) n ⌝ }
 {
-    if node_kind(image, n) != 1 {
+    if node_kind(nodes, n) != 1 {
         return false;
     }
-    node_first(image, n) + node_count(image, n) == c.entries
+    node_first(nodes, n) + node_count(nodes, n) == c.entries
 }
 
-fn bad_entry(image: &[u8], c: Counts, text: usize, clean: bool) -> Search
-    requires { ⌜ Counted (now image) c × NodesHold (treeOf (now image)) × (text ≡ treeOf (now image) .textLength) × (clean ≡ true → Clean (now image)) ⌝ }
-    ensures { λ r. ⌜ r ≡ searchOf (rule5 (treeOf (now (image .entry)))) ⌝ }
+fn bad_entry(nodes: &[u8], entries: &[u8], text: &[u8], c: Counts, clean: bool) -> Search
+    requires { ⌜ Given c (now nodes) (now entries) (now text) × (clean ≡ seenClean c (now text)) ⌝ }
+    ensures { λ r. ⌜ r ≡ searchOf (rule5 (entriesTree c (now (nodes .entry)) (now (entries .entry)) (now (text .entry)))) ⌝ }
 {
     let end = c.nodes;
     let mut n = 0;
     while n < end {
-        let found = bad_in_node(image, c, text, n, clean);
+        let found = bad_in_node(nodes, entries, text, c, n, clean);
         if let Search::At(e) = found {
             return Search::At(e);
         }
-        if ends_entries(image, c, n) {
+        if ends_entries(nodes, c, n) {
             return Search::Nowhere;
         }
         n += 1;
@@ -132,12 +153,12 @@ fn bad_entry(image: &[u8], c: Counts, text: usize, clean: bool) -> Search
     Search::Nowhere
 }
 
-pub fn first_bad_entry(image: &[u8], c: Counts, text: usize) -> Search
-    requires { ⌜ Counted (now image) c × NodesHold (treeOf (now image)) × (text ≡ treeOf (now image) .textLength) ⌝ }
-    ensures { λ r. ⌜ r ≡ searchOf (rule5 (treeOf (now (image .entry)))) ⌝ }
+pub fn first_bad_entry(nodes: &[u8], entries: &[u8], text: &[u8], c: Counts) -> Search
+    requires { ⌜ Given c (now nodes) (now entries) (now text) ⌝ }
+    ensures { λ r. ⌜ r ≡ searchOf (rule5 (entriesTree c (now (nodes .entry)) (now (entries .entry)) (now (text .entry)))) ⌝ }
 {
     if c.entries == 0 {
         return Search::Nowhere;
     }
-    bad_entry(image, c, text, text_clean(image, c, text))
+    bad_entry(nodes, entries, text, c, text_clean(text, c))
 }

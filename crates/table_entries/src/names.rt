@@ -1,20 +1,19 @@
 // An entry's name by itself: where it lies, how long it is, and which bytes it may not be.
-use image::records::Counts;
-use image::records::name_length;
-use image::records::name_offset;
-use image::records::text_at;
-use image::texts::name;
-use strings::holds_from;
+use parts::records::Counts;
+use parts::records::name_length;
+use parts::records::name_offset;
+use parts::texts::name;
+use strings::holds_byte;
 ghost use mathlib.Core.Bool.{true, false, _||_};
 ghost use mathlib.Core.Path.{_≡_};
+ghost use mathlib.Core.List.{[]};
 ghost use Prim.Native.Nat.{_≤_, _<_};
 ghost use lib.Dec.{eqb};
 ghost use lib.ListN.{length};
 ghost use Rattle.model.specs.Bytes.{contains, sameBytes, ascii};
-ghost use Rattle.model.specs.Tree.{treeOf};
 ghost use Rattle.model.specs.TableCheck.{nameHolds};
-ghost use Rattle.image.specs.Counts.{Counted};
-ghost use Rattle.table_entries.specs.Texts.{Clean};
+ghost use Rattle.parts.specs.Parts.{entriesTree, EntryRecords};
+ghost use Rattle.table_entries.specs.Texts.{seenClean};
 
 fn forbidden(b: u8) -> bool
     ensures { λ r. ⌜ r ≡ eqb b 0 || eqb b 47 ⌝ }
@@ -94,28 +93,26 @@ fn is_dots(s: &[u8]) -> bool
     s[1] == 46
 }
 
-// Whether the text is known to have no zero byte and no slash. It is read, once for all names, where that costs no more than it saves:
+// Whether the text is seen to have no zero byte and no slash. It is read, once for all names, where that costs no more than it saves:
 // not where the entries are few or the text is long beside them.
-pub fn text_clean(image: &[u8], c: Counts, text: usize) -> bool
-    requires { ⌜ Counted (now image) c × (text ≡ treeOf (now image) .textLength) ⌝ }
-    ensures { λ r. ⌜ (r ≡ true → Clean (now (image .entry))) ⌝ }
+pub fn text_clean(text: &[u8], c: Counts) -> bool
+    ensures { λ r. ⌜ r ≡ seenClean c (now (text .entry)) ⌝ }
 {
-    if c.entries < 16 + text / 64 {
+    if c.entries < 16 + text.len() / 64 {
         return false;
     }
-    let at = text_at(image, c);
-    if holds_from(image, at, 0) {
+    if holds_byte(text, 0) {
         return false;
     }
-    !holds_from(image, at, 47)
+    !holds_byte(text, 47)
 }
 
-pub fn name_holds(image: &[u8], c: Counts, text: usize, e: usize, clean: bool) -> bool
-    requires { ⌜ Counted (now image) c × (e < treeOf (now image) .entries) × (text ≡ treeOf (now image) .textLength) × (clean ≡ true → Clean (now image)) ⌝ }
-    ensures { λ r. ⌜ r ≡ nameHolds (treeOf (now (image .entry))) e ⌝ }
+pub fn name_holds(entries: &[u8], text: &[u8], c: Counts, e: usize, clean: bool) -> bool
+    requires { ⌜ EntryRecords c (now entries) × (e < c .entries) × (clean ≡ seenClean c (now text)) ⌝ }
+    ensures { λ r. ⌜ r ≡ nameHolds (entriesTree c [] (now (entries .entry)) (now (text .entry))) e ⌝ }
 {
-    let length = name_length(image, c, e);
-    if text < name_offset(image, c, e) + length {
+    let length = name_length(entries, e);
+    if text.len() < name_offset(entries, e) + length {
         return false;
     }
     if length == 0 {
@@ -124,7 +121,7 @@ pub fn name_holds(image: &[u8], c: Counts, text: usize, e: usize, clean: bool) -
     if 255 < length {
         return false;
     }
-    let s = name(image, c, e);
+    let s = name(entries, text, e);
     if holds_forbidden(s, clean) {
         return false;
     }

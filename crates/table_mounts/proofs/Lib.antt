@@ -1,2 +1,2 @@
-mod Laws
-mod PointLaws
+pub mod ClashLaws
+pub mod MountLaws

@@ -1,32 +1,24 @@
-// Rule 6 of the table check: mount records, one function for each sentence. The nodes keep rule 4, so that parents can be followed. A
-// first pass goes as far as the rule is seen to be kept, where parents are followed in two steps a node for all mounts together. Only from
-// the first mount that is not seen to keep it on does the exact way decide whether points are under roots.
-use image::records::Counts;
-use image::records::mount_parent;
-use image::records::mount_point;
-use image::records::mount_root;
-use image::records::mount_zero;
-use image::records::packed_point;
-use image::search::Search;
-use table_under::chart;
-use table_under::climb;
-use table_under::is_within;
-use tree::is_directory;
-ghost use mathlib.Core.Bool.{true};
+// Rule 6 of the table check: mounts. Those that share parent and point with an earlier one are looked for first; below the lowest of them,
+// what each record tells by itself decides, by the quick way as far as that sees the rule kept, and from where it stops by the exact way.
+use parts::lending::lend;
+use parts::records::Counts;
+use parts::records::packed_point;
+use parts::search::Search;
+use table_leads::first_unseen;
+use table_leads::is_settled;
+use table_leads::mount_lead;
+use table_under::first_broken;
+ghost use mathlib.Core.Bool.{false};
+ghost use mathlib.Core.List.{[]};
 ghost use mathlib.Core.Path.{_≡_};
-ghost use Prim.Native.Nat.{_+_, _≤_, _<_};
+ghost use Prim.Native.Nat.{_+_, _*_, _≤_, _<_};
 ghost use lib.ListN.{length};
-ghost use Rattle.model.specs.Tree.{treeOf};
-ghost use Rattle.model.specs.TableCheck.{sharesPoint, hangs, mountHolds, rule6};
-ghost use Rattle.theorems.specs.Acceptance.{NodesHold};
-ghost use Rattle.image.specs.Counts.{Counted};
-ghost use Rattle.image.specs.Searches.{searchOf};
-ghost use Rattle.table_under.specs.Roots.{Charted};
-ghost use Rattle.table_mounts.specs.Besides.{pointFits, hangsBesides, holdsBesides, badFrom};
-ghost use Rattle.table_mounts.specs.Points.{slotOf, Noted};
-
-// The most nodes that a table has: the local arrays have a number for each.
-const NODES: usize = 4096;
+ghost use Rattle.model.specs.TableCheck.{sharesPoint, rule6};
+ghost use Rattle.theorems.specs.Acceptance.{DirectoriesHold};
+ghost use Rattle.parts.specs.Parts.{mountsTree, NodeRecords, MountRecords};
+ghost use Rattle.parts.specs.Searches.{searchOf};
+ghost use Rattle.table_leads.specs.Leads.{brokenFrom};
+ghost use Rattle.table_mounts.specs.Clashes.{uncounted, firstClash, slotOf, Noted};
 
 // A byte for each of so many classes of points.
 const SLOTS: usize = 1024;
@@ -34,27 +26,15 @@ const SLOTS: usize = 1024;
 // So few mounts are searched sooner than the bytes are cleared.
 const FEW: usize = 36;
 
-fn point_fits(image: &[u8], c: Counts, m: usize, parent: usize) -> bool
-    requires { ⌜ Counted (now image) c × (m < treeOf (now image) .mounts) × (parent ≡ treeOf (now image) .mountParent m) × (parent < m) ⌝ }
-    ensures { λ r. ⌜ r ≡ pointFits (treeOf (now (image .entry))) m ⌝ }
-{
-    let point = mount_point(image, c, m);
-    let root = mount_root(image, c, parent);
-    if !is_directory(image, c, point) {
-        return false;
-    }
-    point != root
-}
-
 // Whether an earlier mount other than mount 0 has the same parent and point.
-fn shares_point(image: &[u8], c: Counts, m: usize) -> bool
-    requires { ⌜ Counted (now image) c × (m < treeOf (now image) .mounts) ⌝ }
-    ensures { λ r. ⌜ r ≡ sharesPoint (treeOf (now (image .entry))) m ⌝ }
+fn shares_point(mounts: &[u8], m: usize) -> bool
+    requires { ⌜ 8 * m + 8 ≤ length (now mounts) ⌝ }
+    ensures { λ r. ⌜ r ≡ sharesPoint (uncounted (now (mounts .entry))) m ⌝ }
 {
-    let wanted = packed_point(image, c, m);
+    let wanted = packed_point(mounts, m);
     let mut k = 1;
     while k < m {
-        if packed_point(image, c, k) == wanted {
+        if packed_point(mounts, k) == wanted {
             return true;
         }
         k += 1;
@@ -62,199 +42,103 @@ fn shares_point(image: &[u8], c: Counts, m: usize) -> bool
     false
 }
 
-// The byte of a mount's point. Those that share parent and point share it; those that share the point alone don't, up to some 256.
-fn slot(image: &[u8], c: Counts, m: usize) -> usize
-    requires { ⌜ Counted (now image) c × (m < treeOf (now image) .mounts) ⌝ }
-    ensures { λ r. ⌜ (r ≡ slotOf (treeOf (now (image .entry))) m) × (r < 1024) ⌝ }
-{
-    let parent = mount_parent(image, c, m);
-    (mount_point(image, c, m) + 4 * parent) % SLOTS
-}
-
-// Whether it does, again. Where there are bytes, the earlier mounts are searched only if the point's is set.
-fn clashes(image: &[u8], c: Counts, points: &[u8], m: usize) -> bool
-    requires { ⌜ Counted (now image) c × (m < treeOf (now image) .mounts) × Noted (treeOf (now image)) m (now points) ⌝ }
-    ensures { λ r. ⌜ r ≡ sharesPoint (treeOf (now (image .entry))) m ⌝ }
-{
-    if SLOTS <= points.len() {
-        if points[slot(image, c, m)] == 0 {
-            return false;
-        }
-    }
-    shares_point(image, c, m)
-}
-
-fn note_point(image: &[u8], c: Counts, m: usize, points: &mut [u8])
-    requires { ⌜ Counted (now image) c × (m < treeOf (now image) .mounts) × Noted (treeOf (now image)) m (now points) ⌝ }
-    ensures { λ _. ⌜ Noted (treeOf (now (image .entry))) (m + 1) (now (points .exit)) × (length (now (points .exit)) ≡ length (now (points .entry))) ⌝ }
-{
-    if SLOTS <= points.len() {
-        points[slot(image, c, m)] = 1;
-    }
-}
-
-fn mount_0_hangs(image: &[u8], c: Counts) -> bool
-    requires { ⌜ Counted (now image) c ⌝ }
-    ensures { λ r. ⌜ r ≡ hangs (treeOf (now (image .entry))) 0 ⌝ }
-{
-    if mount_parent(image, c, 0) != 0 {
-        return false;
-    }
-    mount_point(image, c, 0) == mount_root(image, c, 0)
-}
-
-fn hangs_besides(image: &[u8], c: Counts, points: &[u8], m: usize) -> bool
-    requires { ⌜ Counted (now image) c × (m < treeOf (now image) .mounts) × Noted (treeOf (now image)) m (now points) ⌝ }
-    ensures { λ r. ⌜ r ≡ hangsBesides (treeOf (now (image .entry))) m ⌝ }
-{
-    if m == 0 {
-        return mount_0_hangs(image, c);
-    }
-    let parent = mount_parent(image, c, m);
-    if m <= parent {
-        return false;
-    }
-    if !point_fits(image, c, m, parent) {
-        return false;
-    }
-    !clashes(image, c, points, m)
-}
-
-// Whether a mount keeps the rule but for its point being under the parent's root.
-fn holds_besides(image: &[u8], c: Counts, points: &[u8], m: usize) -> bool
-    requires { ⌜ Counted (now image) c × (m < treeOf (now image) .mounts) × Noted (treeOf (now image)) m (now points) ⌝ }
-    ensures { λ r. ⌜ r ≡ holdsBesides (treeOf (now (image .entry))) m ⌝ }
-{
-    if !is_directory(image, c, mount_root(image, c, m)) {
-        return false;
-    }
-    if mount_zero(image, c, m) != 0 {
-        return false;
-    }
-    hangs_besides(image, c, points, m)
-}
-
-// How many of the steps are left once the mount is seen to keep the rule, or 0 where it is not seen.
-fn steps_left(image: &[u8], c: Counts, points: &[u8], m: usize, steps: usize) -> usize
-    requires { ⌜ Counted (now image) c × NodesHold (treeOf (now image)) × (m < treeOf (now image) .mounts) × Noted (treeOf (now image)) m (now points) ⌝ }
-    ensures { λ r. ⌜ (0 < r → mountHolds (treeOf (now (image .entry))) m ≡ true) ⌝ }
-{
-    if !holds_besides(image, c, points, m) {
-        return 0;
-    }
-    if m == 0 {
-        return steps;
-    }
-    let above = mount_parent(image, c, m);
-    climb(
-        image,
-        mount_point(image, c, m),
-        mount_root(image, c, above),
-        steps,
-    )
-}
-
-// The lowest mount that is not seen to keep the rule, else the number of mounts. Whatever the bytes are at first: one that is set
-// needlessly only costs a search.
-fn first_unseen(image: &[u8], c: Counts, points: &mut [u8]) -> usize
-    requires { ⌜ Counted (now image) c × NodesHold (treeOf (now image)) ⌝ }
-    ensures { λ r. ⌜ (r ≤ treeOf (now (image .entry)) .mounts) × (rule6 (treeOf (now (image .entry))) ≡ badFrom (treeOf (now (image .entry))) r)
-        × Noted (treeOf (now (image .entry))) r (now (points .exit)) × (length (now (points .exit)) ≡ length (now (points .entry))) ⌝ }
+fn first_clash_of_few(mounts: &[u8], c: Counts) -> usize
+    requires { ⌜ MountRecords c (now mounts) ⌝ }
+    ensures { λ r. ⌜ r ≡ firstClash (mountsTree c [] (now (mounts .entry))) ⌝ }
 {
     let end = c.mounts;
-    let mut steps = 2 * c.nodes;
-    let mut m = 0;
+    let mut m = 1;
     while m < end {
-        steps = steps_left(image, c, points, m, steps);
-        if steps == 0 {
+        if shares_point(mounts, m) {
             return m;
         }
-        note_point(image, c, m, points);
         m += 1;
     }
     m
 }
 
-fn mount_holds(
-    image: &[u8],
-    c: Counts,
-    points: &[u8],
-    near: &[u16],
-    leaps: &[u16],
-    m: usize,
-) -> bool
-    requires { ⌜ Counted (now image) c × NodesHold (treeOf (now image)) × Charted (treeOf (now image)) (now near) (now leaps) × (m < treeOf (now image) .mounts)
-        × Noted (treeOf (now image)) m (now points) ⌝ }
-    ensures { λ r. ⌜ r ≡ mountHolds (treeOf (now (image .entry))) m ⌝ }
+// The byte of a mount's point. Those that share parent and point share it; those that share the point alone don't, up to some 256.
+fn slot(mounts: &[u8], m: usize) -> usize
+    requires { ⌜ 8 * m + 8 ≤ length (now mounts) ⌝ }
+    ensures { λ r. ⌜ (r ≡ slotOf (now (mounts .entry)) m) × (r < 1024) ⌝ }
 {
-    if !holds_besides(image, c, points, m) {
-        return false;
-    }
-    if m == 0 {
-        return true;
-    }
-    let above = mount_parent(image, c, m);
-    is_within(image, c, near, leaps, above, mount_point(image, c, m))
+    let packed = packed_point(mounts, m);
+    (packed / 65536 + 4 * packed) % SLOTS
 }
 
-fn first_failing(
-    image: &[u8],
-    c: Counts,
-    points: &mut [u8],
-    near: &[u16],
-    leaps: &[u16],
-    from: usize,
-) -> Search
-    requires { ⌜ Counted (now image) c × NodesHold (treeOf (now image)) × Charted (treeOf (now image)) (now near) (now leaps) × (from ≤ treeOf (now image) .mounts)
-        × Noted (treeOf (now image)) from (now points) ⌝ }
-    ensures { λ r. ⌜ r ≡ searchOf (badFrom (treeOf (now (image .entry))) from) ⌝ }
+// Whether a mount shares its point. The earlier mounts are searched only if its byte is set, and it is set for the later ones.
+fn clashes(mounts: &[u8], points: &mut [u8], m: usize) -> bool
+    requires { ⌜ (8 * m + 8 ≤ length (now mounts)) × Noted (now mounts) m (now points) ⌝ }
+    ensures { λ r. ⌜ (r ≡ sharesPoint (uncounted (now (mounts .entry))) m) × Noted (now (mounts .entry)) (m + 1) (now (points .exit))
+        × (length (now (points .exit)) ≡ length (now (points .entry))) ⌝ }
 {
+    let at = slot(mounts, m);
+    if points[at] != 0 {
+        return shares_point(mounts, m);
+    }
+    points[at] = 1;
+    false
+}
+
+fn first_clash_of_many(mounts: &[u8], c: Counts) -> usize
+    requires { ⌜ MountRecords c (now mounts) ⌝ }
+    ensures { λ r. ⌜ r ≡ firstClash (mountsTree c [] (now (mounts .entry))) ⌝ }
+{
+    let mut points = [0u8; SLOTS];
     let end = c.mounts;
-    let mut m = from;
+    let mut m = 1;
     while m < end {
-        if !mount_holds(image, c, points, near, leaps, m) {
-            return Search::At(m);
+        if clashes(mounts, &mut points, m) {
+            return m;
         }
-        note_point(image, c, m, points);
         m += 1;
     }
-    Search::Nowhere
+    m
 }
 
-// The exact way, from the first mount on that is not seen to keep the rule.
-fn first_bad_from(image: &[u8], c: Counts, points: &mut [u8], from: usize) -> Search
-    requires { ⌜ Counted (now image) c × NodesHold (treeOf (now image)) × (from ≤ treeOf (now image) .mounts) × Noted (treeOf (now image)) from (now points) ⌝ }
-    ensures { λ r. ⌜ r ≡ searchOf (badFrom (treeOf (now (image .entry))) from) ⌝ }
-{
-    let mut near = [0u16; NODES];
-    let mut leaps = [0u16; NODES];
-    chart(image, c, &mut near, &mut leaps);
-    first_failing(image, c, points, &near, &leaps, from)
-}
-
-fn first_bad_of_few(image: &[u8], c: Counts) -> Search
-    requires { ⌜ Counted (now image) c × NodesHold (treeOf (now image)) ⌝ }
-    ensures { λ r. ⌜ r ≡ searchOf (rule6 (treeOf (now (image .entry)))) ⌝ }
-{
-    let mut none = [0u8; 1];
-    let from = first_unseen(image, c, &mut none);
-    if c.mounts <= from {
-        return Search::Nowhere;
-    }
-    first_bad_from(image, c, &mut none, from)
-}
-
-pub fn first_bad_mount(image: &[u8], c: Counts) -> Search
-    requires { ⌜ Counted (now image) c × NodesHold (treeOf (now image)) ⌝ }
-    ensures { λ r. ⌜ r ≡ searchOf (rule6 (treeOf (now (image .entry)))) ⌝ }
+// The lowest mount that shares parent and point with an earlier one, else the number of mounts.
+fn first_clash(mounts: &[u8], c: Counts) -> usize
+    requires { ⌜ MountRecords c (now mounts) ⌝ }
+    ensures { λ r. ⌜ r ≡ firstClash (mountsTree c [] (now (mounts .entry))) ⌝ }
 {
     if c.mounts <= FEW {
-        return first_bad_of_few(image, c);
+        return first_clash_of_few(mounts, c);
     }
-    let mut points = [0u8; SLOTS];
-    let from = first_unseen(image, c, &mut points);
-    if c.mounts <= from {
-        return Search::Nowhere;
+    first_clash_of_many(mounts, c)
+}
+
+// The lowest mount below `end` that breaks the rule by itself, else `end`. What both ways are lent is made where they are called, so that
+// a table with one mount does not pay for it.
+fn first_broken_below(nodes: &[u8], mounts: &[u8], c: Counts, end: usize) -> usize
+    requires { ⌜ NodeRecords c (now nodes) × MountRecords c (now mounts) × DirectoriesHold (mountsTree c (now nodes) (now mounts))
+        × (1 ≤ end) × (end ≤ c .mounts) ⌝ }
+    ensures { λ r. ⌜ r ≡ brokenFrom false (mountsTree c (now (nodes .entry)) (now (mounts .entry))) 0 end ⌝ }
+{
+    if !is_settled(mount_lead(nodes, mounts, c, 0)) {
+        return 0;
     }
-    first_bad_from(image, c, &mut points, from)
+    if end <= 1 {
+        return end;
+    }
+    let d = Counts {
+        nodes: c.nodes,
+        mounts: c.mounts,
+        entries: c.entries,
+    };
+    let at = first_unseen(lend(nodes), lend(mounts), d, false, 1, end);
+    if end <= at {
+        return end;
+    }
+    first_broken(lend(nodes), lend(mounts), d, false, at, end)
+}
+
+pub fn first_bad_mount(nodes: &[u8], mounts: &[u8], c: Counts) -> Search
+    requires { ⌜ NodeRecords c (now nodes) × MountRecords c (now mounts) × DirectoriesHold (mountsTree c (now nodes) (now mounts)) ⌝ }
+    ensures { λ r. ⌜ r ≡ searchOf (rule6 (mountsTree c (now (nodes .entry)) (now (mounts .entry)))) ⌝ }
+{
+    let m = first_broken_below(nodes, mounts, c, first_clash(mounts, c));
+    if m < c.mounts {
+        return Search::At(m);
+    }
+    Search::Nowhere
 }

@@ -1,12 +1,12 @@
--- What the text of an image holds.
-use Prim.Native.Nat.{ℕ}
-use mathlib.Core.Bool.{false}
+-- What is seen of the text before bodies are.
+use Prim.Native.Nat.{ℕ, _+_, _/_}
+use mathlib.Core.Bool.{Bool, not, _&&_}
 use mathlib.Core.List.{List}
-use mathlib.Core.Path.{_≡_}
-use lib.ListN.{drop}
+use lib.Dec.{leb}
+use lib.ListN.{length}
 use Rattle.model.specs.Bytes.{contains}
-use Rattle.model.specs.Tree.{sizesOf, textAt}
+use Rattle.parts.specs.declared.records.Counts.{Counts}
 
--- no zero byte
-abbrev pub NoZero : List ℕ → Type 0
-NoZero s = contains 0 (drop (textAt (sizesOf s)) s) ≡ false
+-- that it has no zero byte, where there are nodes enough beside its length
+unfoldable pub seenClean : Counts → List ℕ → Bool
+seenClean c text = leb (16 + length text / 32) (c .nodes) && not (contains 0 text)

@@ -1,62 +1,59 @@
 // Rule 4 of the table check: node records, one function for each sentence.
-use image::records::Counts;
-use image::records::node_count;
-use image::records::node_first;
-use image::records::node_kind;
-use image::records::node_parent;
-use image::records::text_at;
-use image::search::Search;
-use image::texts::body;
+use parts::records::Counts;
+use parts::records::node_count;
+use parts::records::node_first;
+use parts::records::node_kind;
+use parts::records::node_parent;
+use parts::search::Search;
+use parts::texts::body;
 use strings::holds_byte;
-use strings::holds_from;
-ghost use mathlib.Core.Bool.{true};
+ghost use mathlib.Core.List.{[]};
 ghost use mathlib.Core.Path.{_≡_};
-ghost use Prim.Native.Nat.{ℕ, _+_, _≤_, _<_};
-ghost use Rattle.model.specs.Tree.{treeOf};
+ghost use Prim.Native.Nat.{_^_, _<_};
+ghost use Rattle.model.specs.Tree.{kindIn};
 ghost use Rattle.model.specs.TableCheck.{countsBefore, directoryCount, directoryHolds, fileHolds, symlinkHolds, magicHolds, nodeHolds, rule4};
-ghost use Rattle.theorems.specs.Acceptance.{Sized};
-ghost use Rattle.image.specs.Counts.{Counted};
-ghost use Rattle.image.specs.Searches.{searchOf};
-ghost use Rattle.table_nodes.specs.Texts.{NoZero};
+ghost use Rattle.parts.specs.Parts.{nodesTree, NodeRecords};
+ghost use Rattle.parts.specs.Searches.{searchOf};
+ghost use Rattle.table_nodes.specs.Texts.{seenClean};
 
 // `sum` is the sum of earlier directories' counts. A parent numbered no higher than the node is below N, as the node is.
-fn directory_holds(image: &[u8], n: usize, sum: usize) -> bool
-    requires { ⌜ Sized (now image) × (n < treeOf (now image) .nodes) × (sum ≡ countsBefore (treeOf (now image)) n) ⌝ }
-    ensures { λ r. ⌜ r ≡ directoryHolds (treeOf (now (image .entry))) n ⌝ }
+fn directory_holds(nodes: &[u8], c: Counts, n: usize, sum: usize) -> bool
+    requires { ⌜ NodeRecords c (now nodes) × (n < c .nodes) × (sum ≡ countsBefore (nodesTree c (now nodes) []) n) ⌝ }
+    ensures { λ r. ⌜ r ≡ directoryHolds (nodesTree c (now (nodes .entry)) []) n ⌝ }
 {
-    let parent = node_parent(image, n);
+    let parent = node_parent(nodes, n);
     if n < parent {
         return false;
     }
-    if node_kind(image, parent) != 1 {
+    if node_kind(nodes, parent) != 1 {
         return false;
     }
-    node_first(image, n) == sum
+    node_first(nodes, n) == sum
 }
 
-fn file_holds(image: &[u8], n: usize) -> bool
-    requires { ⌜ Sized (now image) × (n < treeOf (now image) .nodes) ⌝ }
-    ensures { λ r. ⌜ r ≡ fileHolds (treeOf (now (image .entry))) n ⌝ }
+fn file_holds(nodes: &[u8], c: Counts, n: usize) -> bool
+    requires { ⌜ NodeRecords c (now nodes) × (n < c .nodes) ⌝ }
+    ensures { λ r. ⌜ r ≡ fileHolds (nodesTree c (now (nodes .entry)) []) n ⌝ }
 {
-    if node_parent(image, n) != 0 {
+    if node_parent(nodes, n) != 0 {
         return false;
     }
-    if node_first(image, n) != 0 {
+    if node_first(nodes, n) != 0 {
         return false;
     }
-    node_count(image, n) == 0
+    node_count(nodes, n) == 0
 }
 
-// In a text that is clean no body has a zero byte.
-fn symlink_holds(image: &[u8], c: Counts, text: usize, n: usize, clean: bool) -> bool
-    requires { ⌜ Counted (now image) c × (n < treeOf (now image) .nodes) × (text ≡ treeOf (now image) .textLength) × (clean ≡ true → NoZero (now image)) ⌝ }
-    ensures { λ r. ⌜ r ≡ symlinkHolds (treeOf (now (image .entry))) n ⌝ }
+// In a text that is seen to be clean no body has a zero byte.
+fn symlink_holds(nodes: &[u8], text: &[u8], c: Counts, n: usize, clean: bool) -> bool
+    requires { ⌜ NodeRecords c (now nodes) × (n < c .nodes) × (clean ≡ seenClean c (now text)) ⌝ }
+    ensures { λ r. ⌜ r ≡ symlinkHolds (nodesTree c (now (nodes .entry)) (now (text .entry))) n ⌝ }
 {
-    let count = node_count(image, n);
-    if node_parent(image, n) != 0 {
+    let count = node_count(nodes, n);
+    if node_parent(nodes, n) != 0 {
         return false;
     }
-    if text < node_first(image, n) + count {
+    if text.len() < node_first(nodes, n) + count {
         return false;
     }
     if count == 0 {
@@ -68,72 +65,72 @@ fn symlink_holds(image: &[u8], c: Counts, text: usize, n: usize, clean: bool) ->
     if clean {
         return true;
     }
-    !holds_byte(body(image, c, n), 0)
+    !holds_byte(body(nodes, text, n), 0)
 }
 
-fn magic_holds(image: &[u8], n: usize) -> bool
-    requires { ⌜ Sized (now image) × (n < treeOf (now image) .nodes) ⌝ }
-    ensures { λ r. ⌜ r ≡ magicHolds (treeOf (now (image .entry))) n ⌝ }
+fn magic_holds(nodes: &[u8], c: Counts, n: usize) -> bool
+    requires { ⌜ NodeRecords c (now nodes) × (n < c .nodes) ⌝ }
+    ensures { λ r. ⌜ r ≡ magicHolds (nodesTree c (now (nodes .entry)) []) n ⌝ }
 {
-    node_parent(image, n) == 0
+    node_parent(nodes, n) == 0
 }
 
 // The kind number, and its invalid range, decide which sentence a record has to keep.
 fn node_holds(
-    image: &[u8],
+    nodes: &[u8],
+    text: &[u8],
     c: Counts,
-    text: usize,
     n: usize,
     kind: usize,
     sum: usize,
     clean: bool,
 ) -> bool
-    requires { ⌜ Counted (now image) c × (n < treeOf (now image) .nodes) × (text ≡ treeOf (now image) .textLength) × (kind ≡ treeOf (now image) .kind n) × (sum ≡ countsBefore (treeOf (now image)) n) × (clean ≡ true → NoZero (now image)) ⌝ }
-    ensures { λ r. ⌜ r ≡ nodeHolds (treeOf (now (image .entry))) n ⌝ }
+    requires { ⌜ NodeRecords c (now nodes) × (n < c .nodes) × (kind ≡ kindIn (now nodes) n)
+        × (sum ≡ countsBefore (nodesTree c (now nodes) (now text)) n) × (clean ≡ seenClean c (now text)) ⌝ }
+    ensures { λ r. ⌜ r ≡ nodeHolds (nodesTree c (now (nodes .entry)) (now (text .entry))) n ⌝ }
 {
     match kind {
-        1 => directory_holds(image, n, sum),
-        2 => file_holds(image, n),
-        3 => symlink_holds(image, c, text, n, clean),
-        4 => magic_holds(image, n),
+        1 => directory_holds(nodes, c, n, sum),
+        2 => file_holds(nodes, c, n),
+        3 => symlink_holds(nodes, text, c, n, clean),
+        4 => magic_holds(nodes, c, n),
         _ => false,
     }
 }
 
 // What a node adds to the sum of directories' counts.
-fn directory_count(image: &[u8], n: usize, kind: usize) -> usize
-    requires { ⌜ Sized (now image) × (n < treeOf (now image) .nodes) × (kind ≡ treeOf (now image) .kind n) ⌝ }
-    ensures { λ r. ⌜ (r ≡ directoryCount (treeOf (now (image .entry))) n) × (r < 4294967296) ⌝ }
+fn directory_count(nodes: &[u8], c: Counts, n: usize, kind: usize) -> usize
+    requires { ⌜ NodeRecords c (now nodes) × (n < c .nodes) × (kind ≡ kindIn (now nodes) n) ⌝ }
+    ensures { λ r. ⌜ (r ≡ directoryCount (nodesTree c (now (nodes .entry)) []) n) × (r < 2 ^ 32) ⌝ }
 {
-    if kind == 1 { node_count(image, n) } else { 0 }
+    if kind == 1 { node_count(nodes, n) } else { 0 }
 }
 
-// Whether the text is known to have no zero byte. It is read, once for all bodies, where that costs no more than it saves: not where the
+// Whether the text is seen to have no zero byte. It is read, once for all bodies, where that costs no more than it saves: not where the
 // nodes are few or the text is long beside them.
-fn text_clean(image: &[u8], c: Counts, text: usize) -> bool
-    requires { ⌜ Counted (now image) c × (text ≡ treeOf (now image) .textLength) ⌝ }
-    ensures { λ r. ⌜ (r ≡ true → NoZero (now (image .entry))) ⌝ }
+fn text_clean(text: &[u8], c: Counts) -> bool
+    ensures { λ r. ⌜ r ≡ seenClean c (now (text .entry)) ⌝ }
 {
-    if c.nodes < 16 + text / 32 {
+    if c.nodes < 16 + text.len() / 32 {
         return false;
     }
-    !holds_from(image, text_at(image, c), 0)
+    !holds_byte(text, 0)
 }
 
-pub fn first_bad_node(image: &[u8], c: Counts, text: usize) -> Search
-    requires { ⌜ Counted (now image) c × (text ≡ treeOf (now image) .textLength) ⌝ }
-    ensures { λ r. ⌜ r ≡ searchOf (rule4 (treeOf (now (image .entry)))) ⌝ }
+pub fn first_bad_node(nodes: &[u8], text: &[u8], c: Counts) -> Search
+    requires { ⌜ NodeRecords c (now nodes) ⌝ }
+    ensures { λ r. ⌜ r ≡ searchOf (rule4 (nodesTree c (now (nodes .entry)) (now (text .entry)))) ⌝ }
 {
-    let clean = text_clean(image, c, text);
+    let clean = text_clean(text, c);
     let end = c.nodes;
     let mut sum = 0;
     let mut n = 0;
     while n < end {
-        let kind = node_kind(image, n);
-        if !node_holds(image, c, text, n, kind, sum, clean) {
+        let kind = node_kind(nodes, n);
+        if !node_holds(nodes, text, c, n, kind, sum, clean) {
             return Search::At(n);
         }
-        sum += directory_count(image, n, kind);
+        sum += directory_count(nodes, c, n, kind);
         n += 1;
     }
     if sum != c.entries {

@@ -1,2 +1,1 @@
--- The laws that the functions' proofs cite.
-pub mod LeadLaws
+pub mod TargetLaws

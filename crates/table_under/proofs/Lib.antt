@@ -1,3 +1,4 @@
 -- The laws that the functions' proofs cite.
+pub mod RowLaws
 pub mod NearLaws
-pub mod LeapLaws
+pub mod BrokenLaws

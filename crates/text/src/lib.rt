@@ -1,7 +1,7 @@
 // Texts, that is the given path and the bodies of symbolic links: which bytes one has, and where in it the next component starts
 // and ends.
-use image::records::Counts;
 use image::texts::body;
+use parts::records::Counts;
 ghost use mathlib.Core.Path.{_≡_};
 ghost use Prim.Native.Nat.{ℕ, _≤_};
 ghost use lib.ListN.{length};

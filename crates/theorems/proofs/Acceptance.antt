@@ -12,11 +12,11 @@ use lib.ListN.{length, length-take, length-drop}
 use borrow.Author.Tests.{ltb-true, leb-true, eqb-true, eq-eqb, not-true}
 use Rattle.model.specs.Bytes.{contains, sameBytes, ascii, part, firstFailing, orElse}
 use Rattle.model.specs.Tree.{Tree, sizesOf, textPart, treeOf, isDirectory, lookup, under, mountOn}
-use Rattle.model.specs.TableCheck.{unless, rule1, rule2, rule3, countsFit, wholeLength, directoryCount, countsBefore, directoryHolds, symlinkHolds, nodeHolds, rule4, nameHolds, ascends, standsInParent, entryHolds, rule5, pointHolds, sharesPoint, hangs, mountHolds, rule6, targetHolds, magicTargetHolds, rule7, breaks, recordsCheck, tableCheck}
+use Rattle.model.specs.TableCheck.{unless, rule1, rule2, rule3, countsFit, wholeLength, directoryCount, sumBelow, countsBefore, directoryHolds, symlinkHolds, nodeHolds, rule4, nameHolds, ascends, standsInParent, entryHolds, rule5, pointHolds, sharesPoint, hangs, mountHolds, rule6, targetHolds, magicTargetHolds, rule7, breaks, recordsCheck, tableCheck}
 use Rattle.model.specs.declared.Place.{Place}
 use Rattle.model.specs.declared.Verdict.{Verdict}
 use Rattle.model.specs.declared.Verdict.the-variants.{Accepted}
-use Rattle.theorems.specs.Acceptance.{Sized, NodesHold, MountsHold, Sound}
+use Rattle.theorems.specs.Acceptance.{Sized, DirectoriesHold, NodesHold, MountsHold, Sound}
 use Rattle.theorems.proofs.ByteLaws.{firstFailing-none, find-some}
 use Rattle.theorems.proofs.Cases.{some-not-none, both}
 use Rattle.theorems.proofs.PartLaws.{part-whole, text-length}
@@ -82,14 +82,23 @@ body-short : (s : List ℕ) (n : ℕ) → length (treeOf s .body n) ≤ treeOf s
 unfolding treeOf part
 body-short s n = simp length-take (omega arith)
 
+-- a directory's own rule
+directory-rule : (t : Tree) → ((n : ℕ) → n < t .nodes → nodeHolds t n ≡ true) → (n : ℕ) → isDirectory t n ≡ true → directoryHolds t n ≡ true
+unfolding isDirectory nodeHolds
+directory-rule t holds n d =
+    let b = both (ltb n (t .nodes)) (eqb (t .kind n) 1) d in
+    let h = holds n (ltb-true _ _ (b .0)) in
+    rw (b .1) at h
+
 -- each rule's silence, as what it says of the records
 pub rule4-nodes : (t : Tree) → rule4 t ≡ none → NodesHold t
 unfolding rule4
 rule4-nodes t e =
     let n = neither (firstFailing (nodeHolds t) (t .nodes)) (unless (eqb (countsBefore t (t .nodes)) (t .entries)) (t .nodes)) e in
+    let holds = firstFailing-none (nodeHolds t) (t .nodes) (n .0) in
     record {
-      node-holds = firstFailing-none (nodeHolds t) (t .nodes) (n .0);
-      counts-sum = eqb-true _ _ (passed _ (t .nodes) (n .1));
+      node-holds = holds;
+      directories-hold = record { directory-holds = directory-rule t holds; counts-sum = eqb-true _ _ (passed _ (t .nodes) (n .1)) };
     }
 
 pub rule6-mounts : (t : Tree) → 0 < t .mounts → rule6 t ≡ none → MountsHold t
@@ -112,16 +121,8 @@ accepted-sound s e =
       body-length = λ n. body-short s n;
     }
 
--- what the nodes say of one another
-module _ (t : Tree) (nodes : NodesHold t) where
-  -- a directory's own rule
-  pub directory-rule : (n : ℕ) → isDirectory t n ≡ true → directoryHolds t n ≡ true
-  unfolding isDirectory nodeHolds
-  directory-rule n d =
-      let b = both (ltb n (t .nodes)) (eqb (t .kind n) 1) d in
-      let h = nodes .node-holds n (ltb-true _ _ (b .0)) in
-      rw (b .1) at h
-
+-- what the directories say of one another
+module _ (t : Tree) (directories : DirectoriesHold t) where
   pub directory-below : (n : ℕ) → isDirectory t n ≡ true → n < t .nodes
   unfolding isDirectory
   directory-below n d = ltb-true _ _ (both (ltb n (t .nodes)) (eqb (t .kind n) 1) d .0)
@@ -133,18 +134,18 @@ module _ (t : Tree) (nodes : NodesHold t) where
   -- a directory's parent
   pub parent-directory : (n : ℕ) → isDirectory t n ≡ true → isDirectory t (t .parent n) ≡ true
   unfolding directoryHolds
-  parent-directory n d = both (isDirectory t (t .parent n)) _ (both (isDirectory t (t .parent n) && leb (t .parent n) n) _ (directory-rule n d) .0) .0
+  parent-directory n d = both (isDirectory t (t .parent n)) _ (both (isDirectory t (t .parent n) && leb (t .parent n) n) _ (directories .directory-holds n d) .0) .0
 
   pub parent-le : (n : ℕ) → isDirectory t n ≡ true → t .parent n ≤ n
   unfolding directoryHolds
-  parent-le n d = leb-true _ _ (both (isDirectory t (t .parent n)) _ (both (isDirectory t (t .parent n) && leb (t .parent n) n) _ (directory-rule n d) .0) .1)
+  parent-le n d = leb-true _ _ (both (isDirectory t (t .parent n)) _ (both (isDirectory t (t .parent n) && leb (t .parent n) n) _ (directories .directory-holds n d) .0) .1)
 
   pub first-sum : (n : ℕ) → isDirectory t n ≡ true → t .first n ≡ countsBefore t n
   unfolding directoryHolds
-  first-sum n d = eqb-true _ _ (both (isDirectory t (t .parent n) && leb (t .parent n) n) _ (directory-rule n d) .1)
+  first-sum n d = eqb-true _ _ (both (isDirectory t (t .parent n) && leb (t .parent n) n) _ (directories .directory-holds n d) .1)
 
   pub counts-grow : (n m : ℕ) → n ≤ m → countsBefore t n ≤ countsBefore t m
-  unfolding countsBefore
+  unfolding countsBefore sumBelow
   counts-grow n zero h = le-of-eq (let e : n ≡ 0 = omega arith in ap (countsBefore t) e)
   counts-grow n (suc m) h =
       ⊎-elim
@@ -153,13 +154,13 @@ module _ (t : Tree) (nodes : NodesHold t) where
       (eq-or-lt-of-le h)
 
   pub counts-next : (n : ℕ) → t .kind n ≡ 1 → countsBefore t (suc n) ≡ countsBefore t n + t .count n
-  unfolding countsBefore directoryCount
+  unfolding countsBefore sumBelow directoryCount
   counts-next n k = rw (eq-eqb (t .kind n) 1 k)
 
   -- a directory's entries lie among the table's
   pub entries-inside : (n : ℕ) → isDirectory t n ≡ true → t .first n + t .count n ≤ t .entries
   entries-inside n d =
-      omega (arith, first-sum n d, counts-next n (directory-kind n d), counts-grow (suc n) (t .nodes) (directory-below n d), nodes .counts-sum)
+      omega (arith, first-sum n d, counts-next n (directory-kind n d), counts-grow (suc n) (t .nodes) (directory-below n d), directories .counts-sum)
 
   pub lookup-inside : (n : ℕ) (name : List ℕ) (e : ℕ) → isDirectory t n ≡ true → lookup t n name ≡ some e → e < t .entries
   unfolding lookup
@@ -167,16 +168,16 @@ module _ (t : Tree) (nodes : NodesHold t) where
       let l = find-some _ (t .first n) (t .count n) e f in
       omega (arith, l .below, entries-inside n d)
 
-  -- what rule 4 says of a symbolic link
-  pub symlink-facts : (n : ℕ) → n < t .nodes → t .kind n ≡ 3
-      → (t .first n + t .count n ≤ t .textLength) × (1 ≤ t .count n) × (t .count n ≤ 4095) × (contains 0 (t .body n) ≡ false)
-  unfolding nodeHolds symlinkHolds
-  symlink-facts n h k =
-      let a = both (eqb (t .parent n) 0 && leb (t .first n + t .count n) (t .textLength) && leb 1 (t .count n) && leb (t .count n) 4095) (not (contains 0 (t .body n))) (rw k at (nodes .node-holds n h)) in
-      let b = both (eqb (t .parent n) 0 && leb (t .first n + t .count n) (t .textLength) && leb 1 (t .count n)) (leb (t .count n) 4095) (a .0) in
-      let c = both (eqb (t .parent n) 0 && leb (t .first n + t .count n) (t .textLength)) (leb 1 (t .count n)) (b .0) in
-      let d = both (eqb (t .parent n) 0) (leb (t .first n + t .count n) (t .textLength)) (c .0) in
-      (leb-true _ _ (d .1), leb-true _ _ (c .1), leb-true _ _ (b .1), not-true _ (a .1))
+-- what rule 4 says of a symbolic link
+pub symlink-facts : (t : Tree) → NodesHold t → (n : ℕ) → n < t .nodes → t .kind n ≡ 3
+    → (t .first n + t .count n ≤ t .textLength) × (1 ≤ t .count n) × (t .count n ≤ 4095) × (contains 0 (t .body n) ≡ false)
+unfolding nodeHolds symlinkHolds
+symlink-facts t nodes n h k =
+    let a = both (eqb (t .parent n) 0 && leb (t .first n + t .count n) (t .textLength) && leb 1 (t .count n) && leb (t .count n) 4095) (not (contains 0 (t .body n))) (rw k at (nodes .node-holds n h)) in
+    let b = both (eqb (t .parent n) 0 && leb (t .first n + t .count n) (t .textLength) && leb 1 (t .count n)) (leb (t .count n) 4095) (a .0) in
+    let c = both (eqb (t .parent n) 0 && leb (t .first n + t .count n) (t .textLength)) (leb 1 (t .count n)) (b .0) in
+    let d = both (eqb (t .parent n) 0) (leb (t .first n + t .count n) (t .textLength)) (c .0) in
+    (leb-true _ _ (d .1), leb-true _ _ (c .1), leb-true _ _ (b .1), not-true _ (a .1))
 
 -- what the mounts say of one another
 module _ (t : Tree) (mounts : MountsHold t) where

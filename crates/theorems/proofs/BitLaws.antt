@@ -1,12 +1,16 @@
 -- Laws of the bits of a number. Assumes nothing.
-use Prim.Native.Nat.{ℕ, zero, suc, _+_, _*_, _/_, _%_, _^_, _<_, max}
-use mathlib.Core.Bool.{Bool, false, _||_, or-false}
-use mathlib.Core.Path.{_≡_, refl, ap, ap₂, _∙_}
-use native.Mathlib.Nat.{div-eq-of-lt}
+use Prim.Native.Nat.{ℕ, zero, suc, _+_, _-_, _*_, _/_, _%_, _^_, _≤_, _<_, max}
+use mathlib.Core.Bool.{Bool, true, false, _||_, or-false}
+use mathlib.Core.Logic.{⊎-elim}
+use mathlib.Core.Path.{_≡_, refl, sym, ap, ap₂, _∙_}
+use native.Mathlib.Nat.{div-eq-of-lt, eq-or-lt-of-le, mul-div-cancel, one-mul, pow-suc}
 use native.Mathlib.Omega.{arith}
+use borrow.Author.Tests.{eq-eqb, ne-eqb}
 use lib.Dec.{eqb}
 use lib.Bits.{bitOr, or-step, or-shr, or-block, or-zero-r}
+use lib.Pow.{pow-lt, pow-add, pow-pos}
 use Rattle.model.specs.Bytes.{has}
+use Rattle.theorems.proofs.Cases.{below-or}
 
 digit-or : (p q : ℕ) → p < 2 → q < 2 → eqb (max p q) 1 ≡ eqb p 1 || eqb q 1
 digit-or zero zero hp hq = refl
@@ -36,6 +40,30 @@ high-clear b x h = rw (div-eq-of-lt h)
 -- so "or" with a smaller number leaves it
 pub has-or-high : (b x y : ℕ) → y < 2 ^ b → has (2 ^ b) (bitOr x y) ≡ has (2 ^ b) x
 has-or-high b x y h = has-or b x y ∙ ap (λ (t : Bool). has (2 ^ b) x || t) (high-clear b y h) ∙ or-false _
+
+-- a power of two has one bit
+has-low : (b d : ℕ) → has (2 ^ b) (2 ^ (suc d + b)) ≡ false
+unfolding has
+has-low b d =
+    let e : 2 ^ (suc d + b) / 2 ^ b ≡ 2 ^ d * 2 = ap (λ (x : ℕ). x / 2 ^ b) (pow-add 2 (suc d) b) ∙ mul-div-cancel (2 ^ suc d) (pow-pos b) ∙ pow-suc 2 d in
+    rw e (ne-eqb (2 ^ d * 2 % 2) 1 (λ z. omega arith))
+
+has-same : (b : ℕ) → has (2 ^ b) (2 ^ b) ≡ true
+unfolding has
+has-same b = let e : 2 ^ b / 2 ^ b ≡ 1 = ap (λ (x : ℕ). x / 2 ^ b) (sym (one-mul (2 ^ b))) ∙ mul-div-cancel 1 (pow-pos b) in rw e
+
+pub has-pow : (b k : ℕ) → has (2 ^ b) (2 ^ k) ≡ eqb b k
+has-pow b k =
+    ⊎-elim
+    (λ (l : b < k).
+    let e : suc (k - b - 1) + b ≡ k = omega arith in
+    ap (λ (x : ℕ). has (2 ^ b) (2 ^ x)) (sym e) ∙ has-low b (k - b - 1) ∙ sym (ne-eqb b k (λ z. omega arith)))
+    (λ (h : k ≤ b).
+    ⊎-elim
+    (λ (e : k ≡ b). ap (λ (x : ℕ). has (2 ^ b) (2 ^ x)) e ∙ has-same b ∙ sym (eq-eqb b k (sym e)))
+    (λ (l : k < b). high-clear b (2 ^ k) (pow-lt l) ∙ sym (ne-eqb b k (λ z. omega arith)))
+    (eq-or-lt-of-le h))
+    (below-or b k)
 
 -- "or" with a byte goes into the lowest byte
 pub or-low : (r b y : ℕ) → b < 256 → y < 256 → bitOr (b + 256 * r) y ≡ bitOr b y + 256 * r

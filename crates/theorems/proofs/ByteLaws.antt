@@ -182,3 +182,9 @@ find-later p at from end l u none-before =
     let there : at + (from - at) ≡ from = omega arith in
     let low : find p at (from - at) ≡ none = find-absent p at (from - at) (λ i k h. none-before i k (omega arith)) in
     ap (find p at) whole ∙ find-append p at (from - at) (end - from) ∙ ap₂ orElse low (ap (λ (k : ℕ). find p k (end - from)) there)
+
+-- two tests that agree in the range find alike
+pub find-alike : (p q : ℕ → Bool) (at count : ℕ) → ((i : ℕ) → at ≤ i → i < at + count → p i ≡ q i) → find p at count ≡ find q at count
+unfolding find
+find-alike p q at zero h = refl
+find-alike p q at (suc count) h = rw (h at (omega arith) (omega arith), find-alike p q (suc at) count (λ i l u. h i (omega arith) (omega arith)))

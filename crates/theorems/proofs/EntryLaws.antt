@@ -1,4 +1,4 @@
--- Laws of entries and the directories that hold them: over nodes that keep rule 4 each entry is in one directory. Assumes nothing.
+-- Laws of entries and the directories that hold them: over directories that keep rule 4 each entry is in one directory. Assumes nothing.
 use Prim.Native.Nat.{ℕ, suc, _+_, _-_, _≤_, _<_}
 use mathlib.Core.Bool.{Bool, true, false, _&&_, _||_, and-false, true≢false}
 use mathlib.Core.Logic.{⊎-elim}
@@ -11,7 +11,7 @@ use Rattle.model.specs.Bytes.{before, find, isSome}
 use Rattle.model.specs.Tree.{Tree, isDirectory, isLink, holds}
 use Rattle.model.specs.TableCheck.{nodeHolds, follows, ascends, standsInParent}
 use Rattle.theorems.specs.Held.{Held}
-use Rattle.theorems.specs.Acceptance.{NodesHold}
+use Rattle.theorems.specs.Acceptance.{DirectoriesHold, NodesHold}
 use Rattle.theorems.proofs.Acceptance.{directory-below, directory-kind, first-sum, counts-grow, counts-next}
 use Rattle.theorems.proofs.ByteLaws.{find-exists, find-absent}
 use Rattle.theorems.proofs.Cases.{both, below-or}
@@ -34,11 +34,11 @@ not-held t n e h = by (holds t n e) refl
     by false f = refl
     by true f = absurd (h (holds-held t n e f))
 
-module _ (t : Tree) (nodes : NodesHold t) where
+module _ (t : Tree) (directories : DirectoriesHold t) where
   -- directories' entries follow one another
   pub apart : (d n : ℕ) → isDirectory t d ≡ true → isDirectory t n ≡ true → d < n → t .first d + t .count d ≤ t .first n
   apart d n hd hn l =
-      omega (arith, first-sum t nodes d hd, first-sum t nodes n hn, counts-next t nodes d (directory-kind t nodes d hd), counts-grow t nodes (suc d) n l)
+      omega (arith, first-sum t directories d hd, first-sum t directories n hn, counts-next t directories d (directory-kind t directories d hd), counts-grow t directories (suc d) n l)
 
   -- so an entry is in one directory
   pub owner-one : (d n e : ℕ) → Held t d e → Held t n e → d ≡ n
@@ -80,7 +80,7 @@ module _ (t : Tree) (nodes : NodesHold t) where
   unfolding follows
   later-follows n e h l =
       rw (lt-ltb 0 e (omega arith))
-      (find-exists (λ d. holds t d (e - 1) && holds t d e) 0 (t .nodes) n (omega arith) (omega (arith, directory-below t nodes n (h .directory)))
+      (find-exists (λ d. holds t d (e - 1) && holds t d e) 0 (t .nodes) n (omega arith) (omega (arith, directory-below t directories n (h .directory)))
       (rw (held-holds t n (e - 1) (record { directory = h .directory; from = omega arith; below = omega (arith, h .below) }), held-holds t n e h)))
 
   -- the order that rule 5 asks for: none of the first entry, and of any other that it comes after the one before it

@@ -21,7 +21,7 @@ use Rattle.theorems.proofs.Cases.{both, first-of, cond-cases}
 module _ (t : Tree) (sound : Sound t) where
   pub root-inside : (m : ℕ) → m < t .mounts → Inside t (rootOf t m)
   unfolding rootOf
-  root-inside m h = record { mount-below = h; node-below = directory-below t (sound .nodes-hold) (t .mountRoot m) (root-directory t (sound .mounts-hold) m h) }
+  root-inside m h = record { mount-below = h; node-below = directory-below t (sound .nodes-hold .directories-hold) (t .mountRoot m) (root-directory t (sound .mounts-hold) m h) }
 
   enter-by-inside : (p : Place) (o : Option ℕ) → mountOn t p ≡ o → Inside t p → Inside t (enterBy t p o .place)
   enter-by-inside p none e h = h
@@ -35,7 +35,7 @@ module _ (t : Tree) (sound : Sound t) where
   unfolding toParent
   to-parent-inside p m d =
       enter-inside (placeAt (p .mount) (t .parent (p .node)))
-      (record { mount-below = m; node-below = directory-below t (sound .nodes-hold) (t .parent (p .node)) (parent-directory t (sound .nodes-hold) (p .node) d) })
+      (record { mount-below = m; node-below = directory-below t (sound .nodes-hold .directories-hold) (t .parent (p .node)) (parent-directory t (sound .nodes-hold .directories-hold) (p .node) d) })
 
   climb-inside : (p : Place) → Inside t p → isDirectory t (p .node) ≡ true → Inside t (climb t p .place)
   unfolding climb pointOf
@@ -96,7 +96,7 @@ module _ (a : Request) (sound : Sound (a .tree)) (root : Inside (a .tree) (a .ro
   step-by-inside : (name : List ℕ) (o : Option ℕ) → lookup (a .tree) (p .node) name ≡ o → StepInside (a .tree) (stepBy a last p o)
   step-by-inside name none e = tt
   step-by-inside name (some i) e =
-      step-to-inside (a .tree .entryNode i) (entry-facts (a .tree) sound i (lookup-inside (a .tree) (sound .nodes-hold) (p .node) name i d e) .1)
+      step-to-inside (a .tree .entryNode i) (entry-facts (a .tree) sound i (lookup-inside (a .tree) (sound .nodes-hold .directories-hold) (p .node) name i d e) .1)
 
   by-name-inside : (name : List ℕ) → StepInside (a .tree) (byName a last p name)
   unfolding byName

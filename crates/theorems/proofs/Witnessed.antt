@@ -9,7 +9,7 @@ use lib.Dec.{lit<}
 use lib.ListN.{length}
 use Rattle.model.specs.Bytes.{field, fieldBytes, part, has, contains, sameBytes, before, find, firstFailing, ascii}
 use Rattle.model.specs.Tree.{sizesOf, nodesPart, mountsPart, entriesPart, textPart, treeOf, isDirectory, isLink, holds, lookup, meetsWithin, under, mountOn, covered}
-use Rattle.model.specs.TableCheck.{rule1, rule2, countsFit, wholeLength, rule3, directoryCount, countsBefore, directoryHolds, fileHolds, symlinkHolds, magicHolds, nodeHolds, rule4}
+use Rattle.model.specs.TableCheck.{rule1, rule2, countsFit, wholeLength, rule3, directoryCount, sumBelow, countsBefore, directoryHolds, fileHolds, symlinkHolds, magicHolds, nodeHolds, rule4}
 use Rattle.model.specs.TableCheck.{nameHolds, follows, ascends, standsInParent, entryHolds, rule5, pointHolds, sharesPoint, hangs, mountHolds}
 use Rattle.model.specs.TableCheck.{rule6, targetHolds, magicTargetHolds, rule7, recordsCheck, tableCheck}
 use Rattle.model.specs.OpenHow.{flagsOf, modeOf, paddingOf, resolveOf, unknownBit, tailSet, bothScopes, modeSet, howRefused, IN-ROOT}
@@ -51,7 +51,7 @@ record Rows : Type 0 where
 rows : Rows
 unfolding field fieldBytes part has contains sameBytes before find firstFailing ascii
     sizesOf nodesPart mountsPart entriesPart textPart treeOf isDirectory isLink holds lookup meetsWithin under mountOn covered
-    rule1 rule2 countsFit wholeLength rule3 directoryCount countsBefore directoryHolds fileHolds symlinkHolds magicHolds nodeHolds rule4
+    rule1 rule2 countsFit wholeLength rule3 directoryCount sumBelow countsBefore directoryHolds fileHolds symlinkHolds magicHolds nodeHolds rule4
     nameHolds follows ascends standsInParent entryHolds rule5 pointHolds sharesPoint hangs mountHolds rule6 targetHolds magicTargetHolds rule7 recordsCheck tableCheck
     flagsOf modeOf paddingOf resolveOf unknownBit tailSet bothScopes modeSet howRefused
     upToSlash componentsFrom components absolute endsInSlash pathRefused handleRefused

@@ -4,8 +4,8 @@ use mathlib.Core.Bool.{true}
 use mathlib.Core.List.{List}
 use mathlib.Core.Path.{_≡_}
 use lib.ListN.{length}
-use Rattle.model.specs.Tree.{Tree, treeOf}
-use Rattle.model.specs.TableCheck.{countsBefore, nodeHolds, entryHolds, mountHolds, magicTargetHolds}
+use Rattle.model.specs.Tree.{Tree, treeOf, isDirectory}
+use Rattle.model.specs.TableCheck.{countsBefore, directoryHolds, nodeHolds, entryHolds, mountHolds, magicTargetHolds}
 
 -- what rules 1 and 3 say of an image's sizes
 pub record Sized (s : List ℕ) : Type 0 where
@@ -17,10 +17,15 @@ pub record Sized (s : List ℕ) : Type 0 where
   pub small : length s ≤ 65536
   pub whole : length s ≡ 20 + 12 * treeOf s .nodes + 8 * treeOf s .mounts + 8 * treeOf s .entries + treeOf s .textLength
 
--- what rule 4 says of a tree: every node record keeps it, and the directories' counts sum to E
+-- what rule 4 says of directories: every one's record keeps it, and their counts sum to E
+pub record DirectoriesHold (t : Tree) : Type 0 where
+  pub directory-holds : (n : ℕ) → isDirectory t n ≡ true → directoryHolds t n ≡ true
+  pub counts-sum : countsBefore t (t .nodes) ≡ t .entries
+
+-- what rule 4 says of a tree: every node record keeps it
 pub record NodesHold (t : Tree) : Type 0 where
   pub node-holds : (n : ℕ) → n < t .nodes → nodeHolds t n ≡ true
-  pub counts-sum : countsBefore t (t .nodes) ≡ t .entries
+  pub directories-hold : DirectoriesHold t
 
 -- what rule 6 says of it
 pub record MountsHold (t : Tree) : Type 0 where

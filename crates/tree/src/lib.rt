@@ -1,5 +1,4 @@
 // Searches over the tree: a name in a directory, the mount on a place, and whether a directory is under a root.
-use image::records::Counts;
 use image::records::mount_root;
 use image::records::name_length;
 use image::records::node_count;
@@ -7,8 +6,9 @@ use image::records::node_first;
 use image::records::node_kind;
 use image::records::node_parent;
 use image::records::packed_point;
-use image::search::Search;
 use image::texts::name;
+use parts::records::Counts;
+use parts::search::Search;
 use strings::same_sized;
 ghost use mathlib.Core.Bool.{true};
 ghost use mathlib.Core.Path.{_≡_};
@@ -18,9 +18,9 @@ ghost use Rattle.model.specs.Tree.{treeOf, isDirectory, under, lookup, mountOn}
 ghost use Rattle.model.specs.TableCheck.{tableCheck};
 ghost use Rattle.model.specs.Walk.{placeAt};
 ghost use Rattle.model.specs.declared.Verdict.the-variants.{Accepted};
-ghost use Rattle.theorems.specs.Acceptance.{Sized, NodesHold};
+ghost use Rattle.theorems.specs.Acceptance.{Sized, DirectoriesHold};
 ghost use Rattle.image.specs.Counts.{Counted};
-ghost use Rattle.image.specs.Searches.{searchOf};
+ghost use Rattle.parts.specs.Searches.{searchOf};
 
 pub fn is_directory(image: &[u8], c: Counts, n: usize) -> bool
     requires { ⌜ Counted (now image) c ⌝ }
@@ -34,7 +34,7 @@ pub fn is_directory(image: &[u8], c: Counts, n: usize) -> bool
 
 // Whether following parents from a directory meets the root. The nodes keep rule 4, so parents fall.
 pub fn is_under(image: &[u8], n: usize, root: usize) -> bool
-    requires { ⌜ Sized (now image) × NodesHold (treeOf (now image)) × (isDirectory (treeOf (now image)) n ≡ true) ⌝ }
+    requires { ⌜ Sized (now image) × DirectoriesHold (treeOf (now image)) × (isDirectory (treeOf (now image)) n ≡ true) ⌝ }
     ensures { λ r. ⌜ r ≡ under (treeOf (now (image .entry))) n root ⌝ }
 {
     let mut k = n;

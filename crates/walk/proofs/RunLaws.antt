@@ -17,7 +17,7 @@ use Rattle.theorems.proofs.Steps.{Took, repeats, step-ordered, step-took}
 use Rattle.component.specs.Outcomes.{requestFor, restrictionsFor}
 use Rattle.component.specs.Walking.{Walking}
 use Rattle.component.specs.declared.Ask.{Ask}
-use Rattle.image.specs.declared.records.Counts.{Counts}
+use Rattle.parts.specs.declared.records.Counts.{Counts}
 use Rattle.walk.specs.Open.{configuration, standsFor, Ready, rest, Held, Stepped}
 use Rattle.walk.specs.declared.Walk.{Walk}
 use Rattle.walk.specs.declared.Next.{Next}

@@ -14,7 +14,7 @@ use Rattle.theorems.specs.Inside.{Inside}
 use Rattle.theorems.specs.Ordered.{Ordered}
 use Rattle.text.specs.Positions.{Stands, left}
 use Rattle.text.specs.Texts.{textOf, Readable}
-use Rattle.image.specs.declared.records.Counts.{Counts}
+use Rattle.parts.specs.declared.records.Counts.{Counts}
 use Rattle.component.specs.Outcomes.{requestFor, restrictionsFor}
 use Rattle.component.specs.Walking.{Walking}
 use Rattle.component.specs.declared.Ask.{Ask}

@@ -2,13 +2,13 @@
 use component::Ask;
 use component::Outcome;
 use component::take_component;
-use image::records::Counts;
 use image::records::node_kind;
 use image::texts::body;
 use model::Answer;
 use model::Errno;
 use model::Place;
 use model::State;
+use parts::records::Counts;
 use reader::at_end;
 use reader::next_component;
 use state::finish;

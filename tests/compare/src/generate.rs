@@ -172,6 +172,9 @@ fn small(dice: &mut Dice) -> Draft {
 
 /// Directories within directories, with a little strewn in.
 fn deep(dice: &mut Dice) -> Draft {
+    if dice.one_in(8) {
+        return tall(dice);
+    }
     let mut draft = Draft::default();
     let mut below = draft.directory(None);
     for _ in 0..dice.from(3, 25) {
@@ -183,6 +186,28 @@ fn deep(dice: &mut Dice) -> Draft {
         below = draft.directory(parent);
         strew(dice, &mut draft, 25);
     }
+    draft
+}
+
+/// So deep, with so many mounts and magic links, that following parents for
+/// each of them takes far more steps than there are nodes.
+fn tall(dice: &mut Dice) -> Draft {
+    let mut draft = Draft::default();
+    let mut below = draft.directory(None);
+    for _ in 0..dice.from(60, 200) {
+        let parent = if dice.percent(97) {
+            Some(below)
+        } else {
+            dice.choose(&draft.directories()).copied()
+        };
+        below = draft.directory(parent);
+    }
+    for _ in 0..dice.from(5, 40) {
+        draft.magic(0, 0);
+    }
+    name_nodes(dice, &mut draft);
+    let count = dice.from(5, 45);
+    add_mounts(dice, &mut draft, count);
     draft
 }
 

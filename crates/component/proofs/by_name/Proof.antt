@@ -9,7 +9,7 @@ use denote.Ref.{now}
 use Rattle.model.specs.Tree.{treeOf, lookup}
 use Rattle.model.specs.Walk.{stepTo, byName}
 use Rattle.theorems.proofs.Acceptance.{accepted-sound, lookup-inside, entry-facts}
-use Rattle.image.proofs.SearchLaws.{search-at, search-nowhere}
+use Rattle.parts.proofs.SearchLaws.{search-at, search-nowhere}
 use Rattle.component.specs.Outcomes.{requestFor, restrictionsFor, outcome}
 use Rattle.component.proofs.by_name.Statement.{statement}
 use Rattle.component.proofs.by_name.Tie as tie
@@ -31,7 +31,7 @@ entry-node-requires c κs =
     let find-entry = c .before .before .before .find-entry in
     let found = c .before .found in
     let t = treeOf (now (args .image)) in
-    let nodes = accepted-sound (now (args .image)) (pre .0 .reading .accepted) .nodes-hold in
+    let nodes = accepted-sound (now (args .image)) (pre .0 .reading .accepted) .nodes-hold .directories-hold in
     let e = search-at (lookup t (args .p .node) (now (args .name))) (found .given .0 .0) (sym (find-entry .ensures) ∙ found .given .1) in
     (pre .0 .reading .counted, lookup-inside t nodes (args .p .node) (now (args .name)) (found .given .0 .0) (pre .2) e)
 
@@ -44,7 +44,7 @@ step-to-requires c κs =
     let t = treeOf (now (args .image)) in
     let sound = accepted-sound (now (args .image)) (pre .0 .reading .accepted) in
     let e = search-at (lookup t (args .p .node) (now (args .name))) (found .given .0 .0) (sym (find-entry .ensures) ∙ found .given .1) in
-    let below = lookup-inside t (sound .nodes-hold) (args .p .node) (now (args .name)) (found .given .0 .0) (pre .2) e in
+    let below = lookup-inside t (sound .nodes-hold .directories-hold) (args .p .node) (now (args .name)) (found .given .0 .0) (pre .2) e in
     (pre .0, pre .1, omega (arith, c .entry-node .ensures .0, entry-facts t sound (found .given .0 .0) below .1))
 
 enum-told : tie.Need-enum-told

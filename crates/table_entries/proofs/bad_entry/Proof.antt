@@ -1,58 +1,61 @@
 -- `table_entries::bad_entry` meets its contract. The loop's invariant: the lowest bad entry is the lowest from the entries of node `n` on.
 -- Assumes nothing.
-use Prim.Native.Nat.{_+_, _-_, _≤_}
-use mathlib.Core.Bool.{not}
-use mathlib.Core.Option.{some, none}
-use mathlib.Core.Path.{_≡_, ap, _∙_, sym}
+use Prim.Native.Nat.{_-_, _≤_}
+use mathlib.Core.Path.{_≡_, refl, ap, _∙_, sym}
 use native.Mathlib.Omega.{arith}
 use denote.Ref.{now}
-use Rattle.model.specs.Tree.{treeOf}
-use Rattle.model.specs.TableCheck.{countsBefore, entryHolds, rule5}
-use Rattle.theorems.proofs.ByteLaws.{find-done}
-use Rattle.image.specs.Searches.{searchOf}
-use Rattle.table_entries.specs.Ranges.{badIn, badOf}
-use Rattle.image.proofs.SearchLaws.{search-at, search-nowhere}
-use Rattle.table_entries.proofs.RangeLaws.{node-step, rule5-start}
+use Rattle.model.specs.TableCheck.{countsBefore, rule5}
+use Rattle.parts.specs.Parts.{entriesTree}
+use Rattle.parts.specs.Searches.{searchOf}
+use Rattle.parts.proofs.SearchLaws.{search-at, search-nowhere}
+use Rattle.table_entries.specs.Ranges.{badOf}
+use Rattle.table_entries.proofs.RangeLaws.{badFrom, rule5-start, rule5-here, rule5-on, rule5-end, ends-counts}
 use Rattle.table_entries.proofs.bad_entry.Statement.{statement}
 use Rattle.table_entries.proofs.bad_entry.Tie as tie
 
 abbrev Inv-loop : tie.InvT-loop
-Inv-loop image c text clean end n₀ n = (end ≡ treeOf image .nodes) × (n ≤ end)
-    × (rule5 (treeOf image) ≡ badIn (treeOf image) (countsBefore (treeOf image) n) (treeOf image .entries - countsBefore (treeOf image) n))
+Inv-loop nodes entries text c clean end n₀ n =
+    (end ≡ c .nodes) × (n ≤ end) × (rule5 (entriesTree c nodes entries text) ≡ badFrom (entriesTree c nodes entries text) n)
 
 abbrev μ-loop : tie.MeasureT-loop
-μ-loop image c text clean end n₀ n = end - n
+μ-loop nodes entries text c clean end n₀ n = end - n
 
 loop-holds : tie.Need-loop-holds Inv-loop μ-loop
-loop-holds c = (c .before .pre .0 .nodes-are, omega arith, rule5-start (treeOf (now (c .before .args .image))))
+loop-holds c =
+    let a = c .before .before .before .args in
+    (refl, omega arith, rule5-start (entriesTree (a .c) (now (a .nodes)) (now (a .entries)) (now (a .text))))
 
 bad-in-node-requires : tie.Need-bad-in-node-requires Inv-loop μ-loop
-bad-in-node-requires c κs = (c .before .before .before .pre .0, c .before .before .before .pre .1, omega arith, c .before .before .before .pre .2, c .before .before .before .pre .3)
+bad-in-node-requires c κs = (c .before .before .before .before .before .pre .0, omega arith, c .before .before .before .before .before .pre .1)
 
 enum-known-found : tie.Need-enum-known-found Inv-loop μ-loop
 enum-known-found c = omega arith
 
 returns : tie.Need-returns Inv-loop μ-loop
 returns c =
-    let t = treeOf (now (c .before .before .before .before .before .before .before .args .image)) in
-    let e = c .before .found .given .0 .0 in
-    let r = search-at (badOf t (c .before .before .before .before .before .loop .n)) e (sym (c .before .before .before .bad-in-node .ensures) ∙ c .before .found .given .1) in
-    let k : rule5 t ≡ some e = c .before .before .before .before .before .loop .inv .2 ∙ node-step t (c .before .before .before .before .before .before .before .pre .1) (c .before .before .before .before .before .loop .n) (omega arith) ∙ rw r in
-    sym (ap searchOf k)
+    let a = c .before .before .before .before .before .before .before .before .before .args in
+    let l = c .before .before .before .before .before .loop in
+    let t = entriesTree (a .c) (now (a .nodes)) (now (a .entries)) (now (a .text)) in
+    let g = c .before .found .given in
+    let r = search-at (badOf t (l .n)) (g .0 .0) (sym (c .before .before .before .bad-in-node .ensures) ∙ g .1) in
+    sym (ap searchOf (rule5-here t (c .before .before .before .before .before .before .before .before .before .pre .0 .directories-hold) (l .n) (g .0 .0) (omega arith) (l .inv .2) r))
 
 enum-told : tie.Need-enum-told Inv-loop μ-loop
 enum-told c = omega arith
 
 ends-entries-requires : tie.Need-ends-entries-requires Inv-loop μ-loop
-ends-entries-requires c κs = (c .before .before .before .before .before .before .pre .0, c .before .before .before .before .before .before .pre .1, omega arith)
+ends-entries-requires c κs = (c .before .before .before .before .before .before .before .before .pre .0 .node-records, omega arith)
 
 returns-2 : tie.Need-returns-2 Inv-loop μ-loop
 returns-2 c =
-    let t = treeOf (now (c .before .before .before .before .before .before .before .before .args .image)) in
-    let r = search-nowhere (badOf t (c .before .before .before .before .before .before .loop .n)) (sym (c .before .before .before .before .bad-in-node .ensures) ∙ c .before .before .enum-told .given .1) in
-    let e : countsBefore t (c .before .before .before .before .before .before .loop .n + 1) ≡ t .entries = c .before .ends-entries .ensures (c .if1 .taken) in
-    let k : rule5 t ≡ none = c .before .before .before .before .before .before .loop .inv .2 ∙ node-step t (c .before .before .before .before .before .before .before .before .pre .1) (c .before .before .before .before .before .before .loop .n) (omega arith) ∙ rw r (find-done (λ k. not (entryHolds t k)) (countsBefore t (c .before .before .before .before .before .before .loop .n + 1)) (t .entries) (omega arith)) in
-    sym (ap searchOf k)
+    let a = c .before .before .before .before .before .before .before .before .before .before .args in
+    let l = c .before .before .before .before .before .before .loop in
+    let d = c .before .before .before .before .before .before .before .before .before .before .pre .0 .directories-hold in
+    let t = entriesTree (a .c) (now (a .nodes)) (now (a .entries)) (now (a .text)) in
+    let r = search-nowhere (badOf t (l .n)) (sym (c .before .before .before .before .bad-in-node .ensures) ∙ c .before .before .enum-told .given .1) in
+    let on = rule5-on t d (l .n) (omega arith) (l .inv .2) r in
+    let e = ends-counts (a .c) (now (a .nodes)) (now (a .entries)) (now (a .text)) d (l .n) (omega arith) (sym (c .before .ends-entries .ensures) ∙ c .if1 .taken) in
+    sym (ap searchOf (rule5-end t _ on e))
 
 add-n : tie.Need-add-n Inv-loop μ-loop
 add-n c = omega arith
@@ -62,16 +65,19 @@ loop-less c = omega arith
 
 loop-again : tie.Need-loop-again Inv-loop μ-loop
 loop-again c =
-    let t = treeOf (now (c .before .before .before .before .before .before .before .before .args .image)) in
-    let r = search-nowhere (badOf t (c .before .before .before .before .before .before .loop .n)) (sym (c .before .before .before .before .bad-in-node .ensures) ∙ c .before .before .enum-told .given .1) in
-    (c .before .before .before .before .before .before .loop .inv .0, omega arith, c .before .before .before .before .before .before .loop .inv .2 ∙ node-step t (c .before .before .before .before .before .before .before .before .pre .1) (c .before .before .before .before .before .before .loop .n) (omega arith) ∙ rw r)
+    let a = c .before .before .before .before .before .before .before .before .before .before .args in
+    let l = c .before .before .before .before .before .before .loop in
+    let t = entriesTree (a .c) (now (a .nodes)) (now (a .entries)) (now (a .text)) in
+    let r = search-nowhere (badOf t (l .n)) (sym (c .before .before .before .before .bad-in-node .ensures) ∙ c .before .before .enum-told .given .1) in
+    (l .inv .0, omega arith, rule5-on t (c .before .before .before .before .before .before .before .before .before .before .pre .0 .directories-hold) (l .n) (omega arith) (l .inv .2) r)
 
 returns-3 : tie.Need-returns-3 Inv-loop μ-loop
 returns-3 c =
-    let t = treeOf (now (c .before .before .before .args .image)) in
-    let n : c .before .loop .n ≡ t .nodes = omega arith in
-    let e : countsBefore t (c .before .loop .n) ≡ t .entries = ap (countsBefore t) n ∙ c .before .before .before .pre .1 .counts-sum in
-    sym (ap searchOf (c .before .loop .inv .2 ∙ find-done (λ k. not (entryHolds t k)) (countsBefore t (c .before .loop .n)) (t .entries) (omega arith)))
+    let a = c .before .before .before .before .before .args in
+    let l = c .before .loop in
+    let t = entriesTree (a .c) (now (a .nodes)) (now (a .entries)) (now (a .text)) in
+    let n : l .n ≡ t .nodes = omega arith in
+    sym (ap searchOf (rule5-end t (l .n) (l .inv .2) (ap (countsBefore t) n ∙ c .before .before .before .before .before .pre .0 .directories-hold .counts-sum)))
 
 pub bad-entry-spec : {M : Type 1} → statement M
 bad-entry-spec =

@@ -1,6 +1,5 @@
--- `table_entries::bad_in_directory` meets its contract. The loop's invariant: the lowest bad entry of the directory is the lowest from `e` on, and the
--- name before `e` keeps its sentence.
--- Assumes nothing.
+-- `table_entries::bad_in_directory` meets its contract. The loop's invariant: the lowest bad entry of the directory is the lowest from
+-- `e` on, and the name before `e` keeps its sentence. Assumes nothing.
 use Prim.Native.Nat.{ℕ, _+_, _-_, _≤_, _<_}
 use mathlib.Core.Bool.{true, not}
 use mathlib.Core.Path.{_≡_, ap, ap₂, _∙_, sym, subst}
@@ -8,45 +7,65 @@ use native.Mathlib.Nat.{lt-irrefl}
 use native.Mathlib.Omega.{arith}
 use borrow.Author.Tests.{not-false}
 use denote.Ref.{now}
-use Rattle.model.specs.Tree.{treeOf}
+use Rattle.model.specs.Tree.{firstIn, countIn}
 use Rattle.model.specs.TableCheck.{nameHolds, entryHolds}
 use Rattle.theorems.proofs.Acceptance.{directory-below}
 use Rattle.theorems.proofs.ByteLaws.{find-here, find-on, find-done}
-use Rattle.image.specs.Searches.{searchOf}
+use Rattle.parts.specs.Parts.{entriesTree}
+use Rattle.parts.specs.Searches.{searchOf}
 use Rattle.table_entries.specs.Ranges.{badIn}
 use Rattle.table_entries.proofs.RangeLaws.{entry-name}
 use Rattle.table_entries.proofs.bad_in_directory.Statement.{statement}
 use Rattle.table_entries.proofs.bad_in_directory.Tie as tie
 
 abbrev Inv-loop : tie.InvT-loop
-Inv-loop image c text n clean first end e₀ e = (first ≡ treeOf image .first n) × (end ≡ first + treeOf image .count n) × (first ≤ e) × (e ≤ end)
-    × (first < e → nameHolds (treeOf image) (e - 1) ≡ true) × (badIn (treeOf image) (treeOf image .first n) (treeOf image .count n) ≡ badIn (treeOf image) e (end - e))
+Inv-loop nodes entries text c n clean first end e₀ e =
+    (first ≡ firstIn nodes n) × (end ≡ first + countIn nodes n) × (first ≤ e) × (e ≤ end)
+    × (first < e → nameHolds (entriesTree c nodes entries text) (e - 1) ≡ true)
+    × (badIn (entriesTree c nodes entries text) (firstIn nodes n) (countIn nodes n) ≡ badIn (entriesTree c nodes entries text) e (end - e))
 
 abbrev μ-loop : tie.MeasureT-loop
-μ-loop image c text n clean first end e₀ e = end - e
+μ-loop nodes entries text c n clean first end e₀ e = end - e
 
 node-first-requires : tie.Need-node-first-requires Inv-loop μ-loop
-node-first-requires c κs = (c .before .pre .0 .sized, directory-below (treeOf (now (c .before .args .image))) (c .before .pre .1) (c .before .args .n) (c .before .pre .2))
+node-first-requires c κs =
+    let a = c .before .before .before .args in
+    let p = c .before .before .before .pre in
+    let t = entriesTree (a .c) (now (a .nodes)) (now (a .entries)) (now (a .text)) in
+    omega (arith, directory-below t (p .0 .directories-hold) (a .n) (p .1), p .0 .node-records .whole)
 
 node-count-requires : tie.Need-node-count-requires Inv-loop μ-loop
-node-count-requires c κs = (c .before .before .pre .0 .sized, directory-below (treeOf (now (c .before .before .args .image))) (c .before .before .pre .1) (c .before .before .args .n) (c .before .before .pre .2))
+node-count-requires c κs =
+    let a = c .before .before .before .before .args in
+    let p = c .before .before .before .before .pre in
+    let t = entriesTree (a .c) (now (a .nodes)) (now (a .entries)) (now (a .text)) in
+    omega (arith, directory-below t (p .0 .directories-hold) (a .n) (p .1), p .0 .node-records .whole)
 
 add-end : tie.Need-add-end Inv-loop μ-loop
 add-end c = omega arith
 
 loop-holds : tie.Need-loop-holds Inv-loop μ-loop
 loop-holds c =
-    let s = now (c .before .before .before .args .image) in
+    let a = c .before .before .before .before .before .args in
+    let t = entriesTree (a .c) (now (a .nodes)) (now (a .entries)) (now (a .text)) in
     let f = c .before .node-first .ensures .0 in
-    let k : c .before .node-first .result + c .node-count .result - c .before .node-first .result ≡ treeOf s .count (c .before .before .before .args .n) = omega (arith, c .node-count .ensures .0) in
-    (f, omega (arith, c .node-count .ensures .0), omega arith, omega arith, (λ l. absurd (lt-irrefl _ l)), sym (ap₂ (badIn (treeOf s)) f k))
+    let m = c .node-count .ensures .0 in
+    let k : c .before .node-first .result + c .node-count .result - c .before .node-first .result ≡ t .count (a .n) = omega arith in
+    (f, omega arith, omega arith, omega arith, (λ l. absurd (lt-irrefl _ l)), sym (ap₂ (badIn t) f k))
 
 entry-holds-requires : tie.Need-entry-holds-requires Inv-loop μ-loop
 entry-holds-requires c κs =
-    (c .before .before .before .before .before .pre .0, c .before .before .before .before .before .pre .1, record { directory = c .before .before .before .before .before .pre .2; from = omega arith; below = omega arith }, c .before .loop .inv .0, c .before .before .before .before .before .pre .3, c .before .loop .inv .4, c .before .before .before .before .before .pre .4)
+    let p = c .before .before .before .before .before .before .before .pre in
+    let i = c .before .loop .inv in
+    (p .0, record { directory = p .1; from = omega arith; below = omega arith }, i .0, i .4, p .2)
 
 returns : tie.Need-returns Inv-loop μ-loop
-returns c = sym (ap searchOf (c .before .before .before .loop .inv .5 ∙ find-here (λ k. not (entryHolds (treeOf (now (c .before .before .before .before .before .before .before .args .image))) k)) (c .before .before .before .loop .e) _ (c .before .before .loop-test .taken) (ap not (sym (c .before .entry-holds .ensures)) ∙ c .if1 .taken)))
+returns c =
+    let a = c .before .before .before .before .before .before .before .before .before .args in
+    let l = c .before .before .before .loop in
+    let t = entriesTree (a .c) (now (a .nodes)) (now (a .entries)) (now (a .text)) in
+    let bad = ap not (sym (c .before .entry-holds .ensures)) ∙ c .if1 .taken in
+    sym (ap searchOf (l .inv .5 ∙ find-here (λ k. not (entryHolds t k)) (l .e) _ (c .before .before .loop-test .taken) bad))
 
 add-e : tie.Need-add-e Inv-loop μ-loop
 add-e c = omega arith
@@ -56,13 +75,21 @@ loop-less c = omega arith
 
 loop-again : tie.Need-loop-again Inv-loop μ-loop
 loop-again c =
-    let t = treeOf (now (c .before .before .before .before .before .before .before .args .image)) in
-    let i : c .before .before .before .loop .e ≡ c .before .before .before .loop .e + 1 - 1 = omega arith in
-    let h = entry-name t (c .before .before .before .loop .e) (sym (c .before .entry-holds .ensures) ∙ not-false _ (c .if1 .left)) in
-    (c .before .before .before .loop .inv .0, c .before .before .before .loop .inv .1, omega arith, omega arith, (λ l. subst (λ (k : ℕ). nameHolds t k ≡ true) i h), c .before .before .before .loop .inv .5 ∙ find-on (λ k. not (entryHolds t k)) (c .before .before .before .loop .e) _ (c .before .before .loop-test .taken) (ap not (sym (c .before .entry-holds .ensures)) ∙ c .if1 .left))
+    let a = c .before .before .before .before .before .before .before .before .before .args in
+    let l = c .before .before .before .loop in
+    let i = l .inv in
+    let t = entriesTree (a .c) (now (a .nodes)) (now (a .entries)) (now (a .text)) in
+    let at : l .e ≡ l .e + 1 - 1 = omega arith in
+    let h = entry-name t (l .e) (sym (c .before .entry-holds .ensures) ∙ not-false _ (c .if1 .left)) in
+    let on = find-on (λ k. not (entryHolds t k)) (l .e) _ (c .before .before .loop-test .taken) (ap not (sym (c .before .entry-holds .ensures)) ∙ c .if1 .left) in
+    (i .0, i .1, omega arith, omega arith, (λ _. subst (λ (k : ℕ). nameHolds t k ≡ true) at h), i .5 ∙ on)
 
 returns-2 : tie.Need-returns-2 Inv-loop μ-loop
-returns-2 c = sym (ap searchOf (c .before .loop .inv .5 ∙ find-done (λ k. not (entryHolds (treeOf (now (c .before .before .before .before .before .args .image))) k)) (c .before .loop .e) _ (c .loop-test .left)))
+returns-2 c =
+    let a = c .before .before .before .before .before .before .before .args in
+    let l = c .before .loop in
+    let t = entriesTree (a .c) (now (a .nodes)) (now (a .entries)) (now (a .text)) in
+    sym (ap searchOf (l .inv .5 ∙ find-done (λ k. not (entryHolds t k)) (l .e) _ (c .loop-test .left)))
 
 pub bad-in-directory-spec : {M : Type 1} → statement M
 bad-in-directory-spec =

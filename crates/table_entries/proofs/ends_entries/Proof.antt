@@ -1,13 +1,12 @@
 -- `table_entries::ends_entries` meets its contract. Assumes nothing.
 use borrow.Author.Needs.{needs}
-use Prim.Native.Nat.{_+_}
-use mathlib.Core.Bool.{false≢true}
-use mathlib.Core.Path.{sym, _∙_}
-use native.Mathlib.Omega.{arith}
-use borrow.Author.Tests.{eqb-true}
+use Prim.Native.Nat.{ℕ, _+_}
+use mathlib.Core.Path.{ap, ap₂, sym, _∙_}
+use borrow.Author.Tests.{eq-eqb, ne-eqb}
+use lib.Dec.{eqb}
 use denote.Ref.{now}
-use Rattle.model.specs.Tree.{treeOf}
-use Rattle.table_entries.proofs.RangeLaws.{counts-end}
+use Rattle.model.specs.Tree.{kindIn}
+use Rattle.table_entries.specs.Ranges.{endsEntries}
 use Rattle.table_entries.proofs.ends_entries.Statement.{statement}
 use Rattle.table_entries.proofs.ends_entries.Tie as tie
 
@@ -15,7 +14,10 @@ node-kind-requires : tie.Need-node-kind-requires
 node-kind-requires c κs = search needs
 
 returns : tie.Need-returns
-returns c = λ e. absurd (false≢true e)
+unfolding endsEntries
+returns c =
+    let a = c .before .before .before .args in
+    rw (ne-eqb (kindIn (now (a .nodes)) (a .n)) 1 (λ k. c .if1 .taken (c .before .node-kind .ensures .0 ∙ k)))
 
 node-first-requires : tie.Need-node-first-requires
 node-first-requires c κs = search needs
@@ -27,10 +29,11 @@ add-result : tie.Need-add-result
 add-result c = search needs
 
 returns-2 : tie.Need-returns-2
-returns-2 c = λ e.
-    let t = treeOf (now (c .before .before .before .before .before .before .args .image)) in
-    counts-end t (c .before .before .before .before .before .before .pre .1) (c .before .before .before .before .before .before .args .n) (c .before .before .before .before .before .before .pre .2) (sym (c .before .before .before .before .node-kind .ensures .0) ∙ c .before .before .before .if1 .left)
-    (omega (arith, eqb-true (c .before .before .node-first .result + c .before .node-count .result) (c .before .before .before .before .before .before .args .c .entries) e, c .before .before .node-first .ensures .0, c .before .node-count .ensures .0, c .before .before .before .before .before .before .pre .0 .entries-are))
+unfolding endsEntries
+returns-2 c =
+    let a = c .before .before .before .before .before .before .args in
+    ap (λ (k : ℕ). eqb k (a .c .entries)) (ap₂ _+_ (c .before .before .node-first .ensures .0) (c .before .node-count .ensures .0))
+    ∙ rw (eq-eqb (kindIn (now (a .nodes)) (a .n)) 1 (sym (c .before .before .before .before .node-kind .ensures .0) ∙ c .before .before .before .if1 .left))
 
 pub ends-entries-spec : {M : Type 1} → statement M
 ends-entries-spec =

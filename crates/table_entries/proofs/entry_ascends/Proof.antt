@@ -1,41 +1,37 @@
 -- `table_entries::entry_ascends` meets its contract: a directory's first entry has none before it. Assumes nothing.
 use borrow.Author.Needs.{needs}
-use Prim.Native.Nat.{_-_}
-use mathlib.Core.Path.{ap₂, _∙_, sym}
-use native.Mathlib.Omega.{arith}
-use denote.Ref.{now}
+use mathlib.Core.Path.{ap₂, _∙_}
+use borrow.Author.Tests.{lt-ltb, le-ltb}
 use Rattle.model.specs.Bytes.{before}
-use Rattle.model.specs.Tree.{treeOf}
-use Rattle.theorems.proofs.Acceptance.{name-holds-facts, entries-inside}
-use Rattle.theorems.proofs.EntryLaws.{first-ascends, later-ascends}
+use Rattle.table_entries.specs.Ranges.{ascendsFrom}
 use Rattle.table_entries.proofs.entry_ascends.Statement.{statement}
 use Rattle.table_entries.proofs.entry_ascends.Tie as tie
 
 returns : tie.Need-returns
-returns c = sym (first-ascends (treeOf (now (c .before .before .args .image))) (c .before .before .pre .1) (c .before .before .args .n) (c .before .before .args .e) (c .before .before .pre .2) (omega (arith, c .before .before .pre .2 .from)))
+unfolding ascendsFrom
+returns c = let a = c .before .before .before .args in rw (le-ltb (a .first) (a .e) (c .if1 .taken))
 
 sub-name : tie.Need-sub-name
 sub-name c = search needs
 
 name-requires : tie.Need-name-requires
 name-requires c κs =
-    let t = treeOf (now (c .before .before .args .image)) in
-    let inside = entries-inside t (c .before .before .pre .1) (c .before .before .args .n) (c .before .before .pre .2 .directory) in
-    (c .before .before .pre .0, omega (arith, c .before .before .pre .2 .below), name-holds-facts t (c .before .before .args .e - 1) (c .before .before .pre .5 (c .if1 .left)) .0)
+    let n = c .before .before .before .pre .1 (c .if1 .left) in
+    (n .whole, n .inside)
 
 name-requires-2 : tie.Need-name-requires-2
 name-requires-2 c κs =
-    let t = treeOf (now (c .before .before .before .args .image)) in
-    let inside = entries-inside t (c .before .before .before .pre .1) (c .before .before .before .args .n) (c .before .before .before .pre .2 .directory) in
-    (c .before .before .before .pre .0, omega (arith, c .before .before .before .pre .2 .below), name-holds-facts t (c .before .before .before .args .e) (c .before .before .before .pre .4) .0)
+    let n = c .before .before .before .before .pre .0 in
+    (n .whole, n .inside)
 
 comes-before-requires : tie.Need-comes-before-requires
 comes-before-requires c κs = search needs
 
 returns-2 : tie.Need-returns-2
+unfolding ascendsFrom
 returns-2 c =
-    let t = treeOf (now (c .before .before .before .before .before .args .image)) in
-    c .comes-before .ensures ∙ ap₂ before (c .before .before .name .ensures) (c .before .name2 .ensures) ∙ sym (later-ascends t (c .before .before .before .before .before .pre .1) (c .before .before .before .before .before .args .n) (c .before .before .before .before .before .args .e) (c .before .before .before .before .before .pre .2) (omega arith))
+    let a = c .before .before .before .before .before .before .args in
+    c .comes-before .ensures ∙ ap₂ before (c .before .before .name .ensures) (c .before .name2 .ensures) ∙ rw (lt-ltb (a .first) (a .e) (c .before .before .before .if1 .left))
 
 pub entry-ascends-spec : {M : Type 1} → statement M
 entry-ascends-spec =

@@ -1,26 +1,27 @@
 -- `table_entries::first_bad_entry` meets its contract. Assumes nothing.
 use borrow.Author.Needs.{needs}
 use mathlib.Core.Option.{none}
-use mathlib.Core.Path.{_≡_, ap, _∙_, sym}
+use mathlib.Core.Path.{_≡_, ap, sym}
 use denote.Ref.{now}
 use Rattle.model.specs.Bytes.{find, firstFailing}
-use Rattle.model.specs.Tree.{treeOf}
 use Rattle.model.specs.TableCheck.{rule5}
-use Rattle.image.specs.Searches.{searchOf}
+use Rattle.parts.specs.Parts.{entriesTree}
+use Rattle.parts.specs.Searches.{searchOf}
 use Rattle.table_entries.proofs.first_bad_entry.Statement.{statement}
 use Rattle.table_entries.proofs.first_bad_entry.Tie as tie
 
 returns : tie.Need-returns
 unfolding rule5 firstFailing find
 returns c =
-    let r : rule5 (treeOf (now (c .before .before .before .args .image))) ≡ none = rw (sym (c .before .before .before .pre .0 .entries-are) ∙ c .if1 .taken) in
+    let a = c .before .before .before .before .before .args in
+    let r : rule5 (entriesTree (a .c) (now (a .nodes)) (now (a .entries)) (now (a .text))) ≡ none = rw (c .if1 .taken) in
     sym (ap searchOf r)
 
 text-clean-requires : tie.Need-text-clean-requires
-text-clean-requires c κs = (c .before .before .before .pre .0, c .before .before .before .pre .2)
+text-clean-requires c κs = search needs
 
 bad-entry-requires : tie.Need-bad-entry-requires
-bad-entry-requires c κs = (c .before .before .before .before .pre .0, c .before .before .before .before .pre .1, c .before .before .before .before .pre .2, c .text-clean .ensures)
+bad-entry-requires c κs = (c .before .before .before .before .before .before .pre, c .text-clean .ensures)
 
 returns-2 : tie.Need-returns-2
 returns-2 c = c .bad-entry .ensures

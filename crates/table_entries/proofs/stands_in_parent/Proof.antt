@@ -1,41 +1,62 @@
--- `table_entries::stands_in_parent` meets its contract: the directory that holds the entry is known, so that it is not searched. Assumes nothing.
+-- `table_entries::stands_in_parent` meets its contract: the directory that holds the entry is known, so that it is not searched.
+-- Assumes nothing.
 use borrow.Author.Needs.{needs}
-use mathlib.Core.Bool.{true}
-use mathlib.Core.Path.{_≡_, ap, ap₂, _∙_, sym}
+use mathlib.Core.List.{[]}
+use mathlib.Core.Path.{ap, ap₂, _∙_, sym}
 use native.Mathlib.Omega.{arith}
 use borrow.Author.Tests.{eq-eqb, ne-eqb}
 use lib.Dec.{ltb}
 use denote.Ref.{now}
-use Rattle.model.specs.Tree.{treeOf, isDirectory}
 use Rattle.theorems.proofs.EntryLaws.{directory-stands, other-stands, is-directory, not-directory}
+use Rattle.parts.specs.Parts.{entriesTree}
+use Rattle.table_entries.proofs.RangeLaws.{held-inside}
 use Rattle.table_entries.proofs.stands_in_parent.Statement.{statement}
 use Rattle.table_entries.proofs.stands_in_parent.Tie as tie
+
+entry-node-requires : tie.Need-entry-node-requires
+entry-node-requires c κs =
+    let a = c .before .before .args in
+    let p = c .before .before .pre in
+    let t = entriesTree (a .c) (now (a .nodes)) (now (a .entries)) [] in
+    omega (arith, held-inside t (p .0 .directories-hold) (a .n) (a .e) (p .1), p .0 .entry-records .whole)
 
 node-kind-requires : tie.Need-node-kind-requires
 node-kind-requires c κs = search needs
 
 returns : tie.Need-returns
 returns c =
-    let t = treeOf (now (c .before .before .before .args .image)) in
-    sym (other-stands t (c .before .before .before .args .e) (not-directory t (t .entryNode (c .before .before .before .args .e)) (λ k. c .if1 .taken (c .before .node-kind .ensures .0 ∙ ap (t .kind) (c .before .before .before .pre .3) ∙ k))))
+    let a = c .before .before .before .before .before .args in
+    let t = entriesTree (a .c) (now (a .nodes)) (now (a .entries)) [] in
+    let k = c .before .node-kind .ensures .0 ∙ ap (t .kind) (c .before .before .entry-node .ensures .0) in
+    sym (other-stands t (a .e) (not-directory t (t .entryNode (a .e)) (λ e. c .if1 .taken (k ∙ e))))
 
 node-parent-requires : tie.Need-node-parent-requires
 node-parent-requires c κs = search needs
 
 returns-2 : tie.Need-returns-2
 returns-2 c =
-    let t = treeOf (now (c .before .before .before .before .before .args .image)) in
-    let d : isDirectory t (t .entryNode (c .before .before .before .before .before .args .e)) ≡ true = is-directory t (t .entryNode (c .before .before .before .before .before .args .e)) (omega arith) (sym (c .before .before .before .node-kind .ensures .0 ∙ ap (t .kind) (c .before .before .before .before .before .pre .3)) ∙ c .before .before .if1 .left) in
-    sym (directory-stands t (c .before .before .before .before .before .pre .1) (c .before .before .before .before .before .args .n) (c .before .before .before .before .before .args .e) (c .before .before .before .before .before .pre .2) d ∙ rw (ne-eqb (t .parent (t .entryNode (c .before .before .before .before .before .args .e))) (c .before .before .before .before .before .args .n) (λ k. c .if2 .taken (c .before .node-parent .ensures .0 ∙ ap (t .parent) (c .before .before .before .before .before .pre .3) ∙ k))))
+    let a = c .before .before .before .before .before .before .before .args in
+    let p = c .before .before .before .before .before .before .before .pre in
+    let t = entriesTree (a .c) (now (a .nodes)) (now (a .entries)) [] in
+    let x = t .entryNode (a .e) in
+    let k = c .before .before .before .node-kind .ensures .0 ∙ ap (t .kind) (c .before .before .before .before .entry-node .ensures .0) in
+    let up = c .before .node-parent .ensures .0 ∙ ap (t .parent) (c .before .before .before .before .entry-node .ensures .0) in
+    let d = is-directory t x (p .2) (sym k ∙ c .before .before .if1 .left) in
+    sym (directory-stands t (p .0 .directories-hold) (a .n) (a .e) (p .1) d ∙ rw (ne-eqb (t .parent x) (a .n) (λ e. c .if2 .taken (up ∙ e))))
 
 returns-3 : tie.Need-returns-3
 returns-3 c =
-    let t = treeOf (now (c .before .before .before .before .before .args .image)) in
-    let x = t .entryNode (c .before .before .before .before .before .args .e) in
-    let p : c .before .node-parent .result ≡ t .parent x = c .before .node-parent .ensures .0 ∙ ap (t .parent) (c .before .before .before .before .before .pre .3) in
-    let d : isDirectory t x ≡ true = is-directory t x (omega arith) (sym (c .before .before .before .node-kind .ensures .0 ∙ ap (t .kind) (c .before .before .before .before .before .pre .3)) ∙ c .before .before .if1 .left) in
-    ap₂ ltb p (c .before .before .before .before .before .pre .3) ∙ sym (directory-stands t (c .before .before .before .before .before .pre .1) (c .before .before .before .before .before .args .n) (c .before .before .before .before .before .args .e) (c .before .before .before .before .before .pre .2) d ∙ rw (eq-eqb (t .parent x) (c .before .before .before .before .before .args .n) (sym p ∙ c .if2 .left)))
+    let a = c .before .before .before .before .before .before .before .args in
+    let p = c .before .before .before .before .before .before .before .pre in
+    let t = entriesTree (a .c) (now (a .nodes)) (now (a .entries)) [] in
+    let x = t .entryNode (a .e) in
+    let k = c .before .before .before .node-kind .ensures .0 ∙ ap (t .kind) (c .before .before .before .before .entry-node .ensures .0) in
+    let up = c .before .node-parent .ensures .0 ∙ ap (t .parent) (c .before .before .before .before .entry-node .ensures .0) in
+    let d = is-directory t x (p .2) (sym k ∙ c .before .before .if1 .left) in
+    ap₂ ltb up (c .before .before .before .before .entry-node .ensures .0)
+    ∙ sym (directory-stands t (p .0 .directories-hold) (a .n) (a .e) (p .1) d ∙ rw (eq-eqb (t .parent x) (a .n) (sym up ∙ c .if2 .left)))
 
 pub stands-in-parent-spec : {M : Type 1} → statement M
 stands-in-parent-spec =
-    tie.close (tie.spec node-kind-requires returns node-parent-requires returns-2 returns-3)
+    tie.close
+    (tie.spec entry-node-requires node-kind-requires returns node-parent-requires returns-2 returns-3)

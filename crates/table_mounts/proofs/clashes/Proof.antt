@@ -1,33 +1,57 @@
--- `table_mounts::clashes` meets its contract: a point whose byte is 0 is no earlier mount's. Assumes nothing.
-use mathlib.Core.Path.{sym}
+-- `table_mounts::clashes` meets its contract. Assumes nothing.
+use borrow.Author.Needs.{needs}
+use mathlib.Core.Path.{refl, sym}
 use native.Mathlib.Omega.{arith}
 use denote.Ref.{now}
-use Rattle.model.specs.Tree.{treeOf}
-use Rattle.table_mounts.proofs.PointLaws.{alone}
-use borrow.Author.Needs.{needs}
+use lib.ListN.{length-set}
+use Rattle.table_mounts.proofs.ClashLaws.{alone, noted-set, noted-on}
 use Rattle.table_mounts.proofs.clashes.Statement.{statement}
 use Rattle.table_mounts.proofs.clashes.Tie as tie
 
 slot-requires : tie.Need-slot-requires
-slot-requires c κs = search needs
+slot-requires c κs = c .before .before .pre .0
 
-shared-slice-read-if2 : tie.Need-shared-slice-read-if2
-shared-slice-read-if2 c = omega (arith, c .before .slot .ensures .1)
+slice-read-if1 : tie.Need-slice-read-if1
+slice-read-if1 c = omega (arith, c .before .slot .ensures .1, c .before .before .before .before .pre .1 .room)
+
+shares-point-requires : tie.Need-shares-point-requires
+shares-point-requires c κs = c .before .before .before .before .before .pre .0
 
 returns : tie.Need-returns
 returns c =
     let a = c .before .before .before .before .before .before .args in
-    let p = c .before .before .before .before .before .before .pre in
-    let slot = c .before .before .slot in
-    sym (alone (treeOf (now (a .image))) (a .m) (now (a .points)) (p .2) (slot .result) (slot .ensures) (c .before .before .before .if1 .taken) (c .if2 .taken))
+    let pre = c .before .before .before .before .before .before .pre in
+    let slot = c .before .before .before .slot in
+    let if1 = c .before .if1 in
+    (c .shares-point .ensures, noted-on (now (a .mounts)) (a .m) (now (a .points)) (pre .1) (slot .result) (slot .ensures) (if1 .taken), refl)
 
-shares-point-requires : tie.Need-shares-point-requires
-shares-point-requires c κs = search needs
+slice-write-points : tie.Need-slice-write-points
+slice-write-points c = omega (arith, c .before .before .slot .ensures .1, c .before .before .before .before .before .pre .1 .room)
+
+same-length : tie.Need-same-length
+same-length c = search needs
 
 returns-2 : tie.Need-returns-2
-returns-2 c = search needs
+returns-2 c =
+    let slot = c .before .before .slot in
+    let pre = c .before .before .before .before .before .pre in
+    let a = c .before .before .before .before .before .args in
+    let s = now (a .mounts) in
+    let points = now (a .points) in
+    let at = slot .result in (
+      sym (alone s (a .m) points (pre .1) at (slot .ensures) (c .if1 .left)),
+      noted-set s (a .m) points (pre .1) at (slot .ensures),
+      length-set points at 1,
+    )
 
 pub clashes-spec : {M : Type 1} → statement M
 clashes-spec =
     tie.close
-    (tie.spec slot-requires shared-slice-read-if2 returns shares-point-requires returns-2)
+    (tie.spec
+    slot-requires
+    slice-read-if1
+    shares-point-requires
+    returns
+    slice-write-points
+    same-length
+    returns-2)

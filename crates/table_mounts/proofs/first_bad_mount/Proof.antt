@@ -1,56 +1,49 @@
 -- `table_mounts::first_bad_mount` meets its contract. Assumes nothing.
-use borrow.Author.Needs.{needs}
-use mathlib.Core.Bool.{not}
+use mathlib.Core.Bool.{false}
 use mathlib.Core.Path.{sym, ap, _∙_}
 use native.Mathlib.Omega.{arith}
 use denote.Ref.{now}
-use Rattle.model.specs.Tree.{treeOf}
-use Rattle.model.specs.TableCheck.{mountHolds}
-use Rattle.theorems.proofs.ByteLaws.{find-done}
-use Rattle.image.specs.Searches.{searchOf}
+use Rattle.parts.specs.Parts.{mountsTree}
+use Rattle.parts.specs.Searches.{searchOf}
+use Rattle.table_leads.specs.Leads.{brokenFrom}
+use Rattle.table_mounts.proofs.MountLaws.{clash-alike, clash-found, rule-some, rule-none}
 use Rattle.table_mounts.proofs.first_bad_mount.Statement.{statement}
 use Rattle.table_mounts.proofs.first_bad_mount.Tie as tie
 
-first-bad-of-few-requires : tie.Need-first-bad-of-few-requires
-first-bad-of-few-requires c κs = (c .before .before .before .pre .0, c .before .before .before .pre .1)
+first-clash-requires : tie.Need-first-clash-requires
+first-clash-requires c κs = c .before .before .pre .1
+
+first-broken-below-requires : tie.Need-first-broken-below-requires
+first-broken-below-requires c κs =
+    let a = c .before .before .before .args in
+    let p = c .before .before .before .pre in
+    let t = mountsTree (a .c) (now (a .nodes)) (now (a .mounts)) in
+    let clash = c .first-clash .ensures ∙ clash-alike (a .c) (now (a .nodes)) (now (a .mounts)) in
+    let found = clash-found t (p .1 .some) in
+    (p .0, p .1, p .2, omega (arith, clash, found .from), omega (arith, clash, found .below))
 
 returns : tie.Need-returns
-returns c = c .first-bad-of-few .ensures
-
-slice-aggregate-first-unseen : tie.Need-slice-aggregate-first-unseen
-slice-aggregate-first-unseen c = search needs
-
-first-unseen-requires : tie.Need-first-unseen-requires
-first-unseen-requires c κs = (c .before .before .before .before .pre .0, c .before .before .before .before .pre .1)
+returns c =
+    let a = c .before .before .before .before .before .before .args in
+    let first-clash = c .before .before .before .first-clash in
+    let first-broken-below = c .before .before .first-broken-below in
+    let pre = c .before .before .before .before .before .before .pre in
+    let t = mountsTree (a .c) (now (a .nodes)) (now (a .mounts)) in
+    let clash = first-clash .ensures ∙ clash-alike (a .c) (now (a .nodes)) (now (a .mounts)) in
+    let at = first-broken-below .ensures ∙ ap (brokenFrom false t 0) clash in
+    sym (ap searchOf (rule-some t (pre .1 .some) (first-broken-below .result) at (c .if1 .taken)))
 
 returns-2 : tie.Need-returns-2
 returns-2 c =
-    let a = c .before .before .before .before .before .before .before .before .args in
-    let p = c .before .before .before .before .before .before .before .before .pre in
-    let first-unseen = c .before .before .before .first-unseen in
-    sym (ap searchOf (first-unseen .ensures .1 ∙ find-done (λ k. not (mountHolds (treeOf (now (a .image))) k)) (first-unseen .result) _ (omega (arith, p .0 .mounts-are))))
-
-slice-aggregate-first-bad-from : tie.Need-slice-aggregate-first-bad-from
-slice-aggregate-first-bad-from c = search needs
-
-first-bad-from-requires : tie.Need-first-bad-from-requires
-first-bad-from-requires c κs =
-    let p = c .before .before .before .before .before .before .before .before .before .pre in
-    let first-unseen = c .before .before .before .before .first-unseen in
-    (p .0, p .1, first-unseen .ensures .0, first-unseen .ensures .2)
-
-returns-3 : tie.Need-returns-3
-returns-3 c = c .before .first-bad-from .ensures ∙ ap searchOf (sym (c .before .before .before .before .before .before .first-unseen .ensures .1))
+    let a = c .before .before .before .before .before .before .args in
+    let first-clash = c .before .before .before .first-clash in
+    let first-broken-below = c .before .before .first-broken-below in
+    let pre = c .before .before .before .before .before .before .pre in
+    let t = mountsTree (a .c) (now (a .nodes)) (now (a .mounts)) in
+    let clash = first-clash .ensures ∙ clash-alike (a .c) (now (a .nodes)) (now (a .mounts)) in
+    let at = first-broken-below .ensures ∙ ap (brokenFrom false t 0) clash in
+    sym (ap searchOf (rule-none t (pre .1 .some) (first-broken-below .result) at (omega arith)))
 
 pub first-bad-mount-spec : {M : Type 1} → statement M
 first-bad-mount-spec =
-    tie.close
-    (tie.spec
-    first-bad-of-few-requires
-    returns
-    slice-aggregate-first-unseen
-    first-unseen-requires
-    returns-2
-    slice-aggregate-first-bad-from
-    first-bad-from-requires
-    returns-3)
+    tie.close (tie.spec first-clash-requires first-broken-below-requires returns returns-2)

@@ -1,43 +1,46 @@
--- `table_mounts::shares_point` meets its contract. The loop's invariant: an earlier mount shares the point if one from `k` on does.
--- Assumes nothing.
+-- `table_mounts::shares_point` meets its contract. The loop's invariant: an earlier mount shares the point if one from `k` on does. Assumes nothing.
 use Prim.Native.Nat.{_+_, _-_, _*_, _^_, _≤_, _<_}
 use mathlib.Core.Bool.{_&&_}
 use mathlib.Core.Path.{_≡_, refl, ap, _∙_, sym}
 use native.Mathlib.Omega.{arith}
 use lib.Dec.{eqb}
-use denote.Ref.{now}
 use Rattle.model.specs.Bytes.{find, isSome}
-use Rattle.model.specs.Tree.{treeOf}
+use Rattle.model.specs.Tree.{mountParentIn, mountPointIn}
 use Rattle.model.specs.TableCheck.{sharesPoint}
 use Rattle.theorems.proofs.ByteLaws.{find-here, find-on, find-done}
 use Rattle.theorems.proofs.StringLaws.{packed-same, packed-other}
+use Rattle.table_mounts.specs.Clashes.{uncounted}
 use Rattle.table_mounts.proofs.shares_point.Statement.{statement}
 use Rattle.table_mounts.proofs.shares_point.Tie as tie
 
 abbrev Inv-loop : tie.InvT-loop
-Inv-loop image c m wanted k₀ k = (1 ≤ k) × (wanted ≡ treeOf image .mountParent m + 65536 * treeOf image .mountPoint m) × (treeOf image .mountParent m < 2 ^ 16)
-    × (sharesPoint (treeOf image) m ≡ isSome (find (λ j. eqb (treeOf image .mountParent j) (treeOf image .mountParent m) && eqb (treeOf image .mountPoint j) (treeOf image .mountPoint m)) k (m - k)))
+Inv-loop mounts m wanted k₀ k = (1 ≤ k) × (wanted ≡ mountParentIn mounts m + 65536 * mountPointIn mounts m) × (mountParentIn mounts m < 2 ^ 16)
+    × (sharesPoint (uncounted mounts) m ≡ isSome (find (λ j. eqb (mountParentIn mounts j) (mountParentIn mounts m) && eqb (mountPointIn mounts j) (mountPointIn mounts m)) k (m - k)))
 
 abbrev μ-loop : tie.MeasureT-loop
-μ-loop image c m wanted k₀ k = m - k
+μ-loop mounts m wanted k₀ k = m - k
 
 packed-point-requires : tie.Need-packed-point-requires Inv-loop μ-loop
-packed-point-requires c κs = (c .before .pre .0, omega arith)
+packed-point-requires c κs = c .before .pre
 
 loop-holds : tie.Need-loop-holds Inv-loop μ-loop
 unfolding sharesPoint
-loop-holds c = (omega arith, c .packed-point .ensures .0, c .packed-point .ensures .1, refl)
+loop-holds c =
+    let packed = c .packed-point .ensures in
+    (omega arith, packed .0, packed .1, refl)
 
 packed-point-requires-2 : tie.Need-packed-point-requires-2 Inv-loop μ-loop
-packed-point-requires-2 c κs = (c .before .before .before .before .pre .0, omega arith)
+packed-point-requires-2 c κs = omega (arith, c .before .before .before .before .pre)
 
 returns : tie.Need-returns Inv-loop μ-loop
 returns c =
-    let a = c .before .before .before .before .before .before .args in
     let l = c .before .before .before .loop in
     let packed-point2 = c .before .packed-point2 in
-    let same = packed-same _ _ _ _ (packed-point2 .ensures .1) (l .inv .2) (sym (packed-point2 .ensures .0) ∙ c .if1 .taken ∙ l .inv .1) in
-    sym (l .inv .3 ∙ ap isSome (find-here _ (l .k) (a .m) (c .before .before .loop-test .taken) same))
+    let args = c .before .before .before .before .before .before .args in
+    let test = c .before .before .loop-test in
+    let packed = packed-point2 .ensures in
+    let same = packed-same _ _ _ _ (packed .1) (l .inv .2) (sym (packed .0) ∙ c .if1 .taken ∙ l .inv .1) in
+    sym (l .inv .3 ∙ ap isSome (find-here _ (l .k) (args .m) (test .taken) same))
 
 add-k : tie.Need-add-k Inv-loop μ-loop
 add-k c = omega arith
@@ -47,16 +50,18 @@ loop-less c = omega arith
 
 loop-again : tie.Need-loop-again Inv-loop μ-loop
 loop-again c =
-    let a = c .before .before .before .before .before .before .args in
-    let l = c .before .before .before .loop in (
-      omega arith,
-      l .inv .1,
-      l .inv .2,
-      l .inv .3 ∙ ap isSome (find-on _ (l .k) (a .m) (c .before .before .loop-test .taken) (packed-other _ _ _ _ (λ e. c .if1 .left (c .before .packed-point2 .ensures .0 ∙ e ∙ sym (l .inv .1))))),
-    )
+    let l = c .before .before .before .loop in
+    let packed-point2 = c .before .packed-point2 in
+    let args = c .before .before .before .before .before .before .args in
+    let test = c .before .before .loop-test in
+    let packed = packed-point2 .ensures in
+    let other = packed-other _ _ _ _ (λ e. c .if1 .left (packed .0 ∙ e ∙ sym (l .inv .1))) in
+    (omega arith, l .inv .1, l .inv .2, l .inv .3 ∙ ap isSome (find-on _ (l .k) (args .m) (test .taken) other))
 
 returns-2 : tie.Need-returns-2 Inv-loop μ-loop
-returns-2 c = sym (c .before .loop .inv .3 ∙ ap isSome (find-done _ (c .before .loop .k) (c .before .before .before .before .args .m) (c .loop-test .left)))
+returns-2 c =
+    let l = c .before .loop in
+    sym (l .inv .3 ∙ ap isSome (find-done _ (l .k) (c .before .before .before .before .args .m) (c .loop-test .left)))
 
 pub shares-point-spec : {M : Type 1} → statement M
 shares-point-spec =

@@ -1,28 +1,36 @@
--- `table_mounts::slot` meets its contract. Assumes nothing.
-use borrow.Author.Needs.{needs}
-use Prim.Native.Nat.{ℕ, _+_, _*_, _%_}
-use mathlib.Core.Path.{ap₂}
+-- `table_mounts::slot` meets its contract: the point stands above the parent in the number that was read, and 65,536 is a multiple of 1,024. Assumes nothing.
+use Prim.Native.Nat.{ℕ, _+_, _*_, _/_, _%_}
+use mathlib.Core.Path.{_≡_, ap, _∙_}
+use native.Mathlib.Nat.{add-mul-mod-self-left}
 use native.Mathlib.Omega.{arith}
-use Rattle.table_mounts.specs.Points.{slotOf}
+use denote.Ref.{now}
+use Rattle.model.specs.Tree.{mountParentIn, mountPointIn}
+use Rattle.table_mounts.specs.Clashes.{slotOf}
 use Rattle.table_mounts.proofs.slot.Statement.{statement}
 use Rattle.table_mounts.proofs.slot.Tie as tie
 
-mount-parent-requires : tie.Need-mount-parent-requires
-mount-parent-requires c κs = search needs
-
-mount-point-requires : tie.Need-mount-point-requires
-mount-point-requires c κs = search needs
+packed-point-requires : tie.Need-packed-point-requires
+packed-point-requires c κs = c .before .pre
 
 mul-result : tie.Need-mul-result
-mul-result c = omega (arith, c .before .mount-parent .ensures .1)
+mul-result c = omega (arith, c .packed-point .ensures .2)
 
 add-result : tie.Need-add-result
-add-result c = omega (arith, c .before .mount-parent .ensures .1, c .mount-point .ensures .1)
+add-result c = omega (arith, c .packed-point .ensures .2)
 
 returns : tie.Need-returns
 unfolding slotOf
-returns c = (ap₂ (λ (n : ℕ) (p : ℕ). (n + 4 * p) % 1024) (c .mount-point .ensures .0) (c .before .mount-parent .ensures .0), omega arith)
+returns c =
+    let a = c .before .before .args in
+    let s = now (a .mounts) in
+    let packed = c .packed-point .ensures in
+    let r = c .packed-point .result in
+    let p = mountParentIn s (a .m) in
+    let n = mountPointIn s (a .m) in
+    let above : r / 65536 ≡ n = omega (arith, packed .0, packed .1) in
+    let more : n + 4 * r ≡ n + 4 * p + 1024 * (256 * n) = omega (arith, packed .0) in
+    let rest = ap (λ (k : ℕ). k % 1024) more ∙ add-mul-mod-self-left (n + 4 * p) 1024 (256 * n) in
+    (ap (λ (k : ℕ). (k + 4 * r) % 1024) above ∙ rest, omega arith)
 
 pub slot-spec : {M : Type 1} → statement M
-slot-spec =
-    tie.close (tie.spec mount-parent-requires mount-point-requires mul-result add-result returns)
+slot-spec = tie.close (tie.spec packed-point-requires mul-result add-result returns)

@@ -4,7 +4,7 @@ use mathlib.Core.Path.{_∙_, sym}
 use native.Mathlib.Omega.{arith}
 use borrow.Author.Tests.{eq-eqb, ne-eqb}
 use denote.Ref.{now}
-use Rattle.model.specs.Tree.{treeOf}
+use Rattle.model.specs.Tree.{kindIn}
 use Rattle.model.specs.TableCheck.{directoryCount}
 use Rattle.table_nodes.proofs.directory_count.Statement.{statement}
 use Rattle.table_nodes.proofs.directory_count.Tie as tie
@@ -14,11 +14,15 @@ node-count-requires c κs = search needs
 
 returns : tie.Need-returns
 unfolding directoryCount
-returns c = let k = c .before .before .before .pre .2 in (c .node-count .ensures .0 ∙ rw (eq-eqb (treeOf (now (c .before .before .before .args .image)) .kind (c .before .before .before .args .n)) 1 (sym k ∙ c .before .if1 .taken)), omega arith)
+returns c =
+    let a = c .before .before .before .args in
+    (c .node-count .ensures .0 ∙ rw (eq-eqb (kindIn (now (a .nodes)) (a .n)) 1 (sym (c .before .before .before .pre .2) ∙ c .before .if1 .taken)), omega arith)
 
 returns-2 : tie.Need-returns-2
 unfolding directoryCount
-returns-2 c = let k = c .before .before .pre .2 in (rw (ne-eqb (treeOf (now (c .before .before .args .image)) .kind (c .before .before .args .n)) 1 (λ e. c .if1 .left (k ∙ e))), omega arith)
+returns-2 c =
+    let a = c .before .before .args in
+    (rw (ne-eqb (kindIn (now (a .nodes)) (a .n)) 1 (λ e. c .if1 .left (c .before .before .pre .2 ∙ e))), omega arith)
 
 pub directory-count-spec : {M : Type 1} → statement M
 directory-count-spec = tie.close (tie.spec node-count-requires returns returns-2)

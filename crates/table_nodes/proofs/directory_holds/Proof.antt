@@ -6,7 +6,7 @@ use native.Mathlib.Omega.{arith}
 use borrow.Author.Tests.{eq-eqb, ne-eqb, lt-ltb, le-leb, lt-leb}
 use lib.Dec.{eqb}
 use denote.Ref.{now}
-use Rattle.model.specs.Tree.{treeOf, isDirectory}
+use Rattle.model.specs.Tree.{kindIn, parentIn, isDirectory}
 use Rattle.model.specs.TableCheck.{directoryHolds}
 use Rattle.table_nodes.proofs.directory_holds.Statement.{statement}
 use Rattle.table_nodes.proofs.directory_holds.Tie as tie
@@ -16,14 +16,21 @@ node-parent-requires c κs = search needs
 
 returns : tie.Need-returns
 unfolding directoryHolds
-returns c = let t = treeOf (now (c .before .before .before .args .image)) in simp (lt-leb (t .parent (c .before .before .before .args .n)) (c .before .before .before .args .n) (omega arith), and-false)
+returns c =
+    let a = c .before .before .before .args in
+    simp (lt-leb (parentIn (now (a .nodes)) (a .n)) (a .n) (omega arith), and-false)
 
 node-kind-requires : tie.Need-node-kind-requires
 node-kind-requires c κs = search needs
 
 returns-2 : tie.Need-returns-2
 unfolding directoryHolds isDirectory
-returns-2 c = let t = treeOf (now (c .before .before .before .before .before .args .image)) in simp (ne-eqb (t .kind (t .parent (c .before .before .before .before .before .args .n))) 1 (λ e. c .if2 .taken (c .before .node-kind .ensures .0 ∙ ap (t .kind) (c .before .before .before .node-parent .ensures .0) ∙ e)), and-false)
+returns-2 c =
+    let a = c .before .before .before .before .before .args in
+    let kind = kindIn (now (a .nodes)) in
+    let p = parentIn (now (a .nodes)) (a .n) in
+    let k = c .before .node-kind .ensures .0 ∙ ap kind (c .before .before .before .node-parent .ensures .0) in
+    simp (ne-eqb (kind p) 1 (λ e. c .if2 .taken (k ∙ e)), and-false)
 
 node-first-requires : tie.Need-node-first-requires
 node-first-requires c κs = search needs
@@ -31,10 +38,12 @@ node-first-requires c κs = search needs
 returns-3 : tie.Need-returns-3
 unfolding directoryHolds isDirectory
 returns-3 c =
-    let t = treeOf (now (c .before .before .before .before .before .before .args .image)) in
-    let p = t .parent (c .before .before .before .before .before .before .args .n) in
+    let a = c .before .before .before .before .before .before .args in
+    let kind = kindIn (now (a .nodes)) in
+    let p = parentIn (now (a .nodes)) (a .n) in
+    let k = c .before .before .node-kind .ensures .0 ∙ ap kind (c .before .before .before .before .node-parent .ensures .0) in
     ap₂ eqb (c .node-first .ensures .0) (c .before .before .before .before .before .before .pre .2)
-    ∙ rw (lt-ltb p (t .nodes) (omega arith), eq-eqb (t .kind p) 1 (sym (c .before .before .node-kind .ensures .0 ∙ ap (t .kind) (c .before .before .before .before .node-parent .ensures .0)) ∙ c .before .if2 .left), le-leb p (c .before .before .before .before .before .before .args .n) (omega arith))
+    ∙ rw (lt-ltb p (a .c .nodes) (omega arith), eq-eqb (kind p) 1 (sym k ∙ c .before .if2 .left), le-leb p (a .n) (omega arith))
 
 pub directory-holds-spec : {M : Type 1} → statement M
 directory-holds-spec =

@@ -2,14 +2,16 @@
 use borrow.Author.Needs.{needs}
 use Prim.Native.Nat.{_+_}
 use mathlib.Core.Bool.{not, and-false}
-use mathlib.Core.Path.{_≡_, ap, _∙_, sym}
+use mathlib.Core.Path.{ap, _∙_, sym}
 use native.Mathlib.Omega.{arith}
-use borrow.Author.Tests.{eq-eqb, ne-eqb, le-leb, lt-leb}
+use borrow.Author.Tests.{ne-eqb, lt-leb}
+use lib.ListN.{length}
 use denote.Ref.{now}
 use Rattle.model.specs.Bytes.{contains}
-use Rattle.model.specs.Tree.{treeOf}
+use Rattle.model.specs.Tree.{parentIn, firstIn, countIn}
 use Rattle.model.specs.TableCheck.{symlinkHolds}
-use Rattle.table_nodes.proofs.BodyLaws.{body-no-zero}
+use Rattle.parts.specs.Parts.{nodesTree}
+use Rattle.table_nodes.proofs.BodyLaws.{body-test, body-clean}
 use Rattle.table_nodes.proofs.symlink_holds.Statement.{statement}
 use Rattle.table_nodes.proofs.symlink_holds.Tie as tie
 
@@ -21,7 +23,9 @@ node-parent-requires c κs = search needs
 
 returns : tie.Need-returns
 unfolding symlinkHolds
-returns c = let t = treeOf (now (c .before .before .before .before .args .image)) in simp (ne-eqb (t .parent (c .before .before .before .before .args .n)) 0 (λ e. c .if1 .taken (c .before .node-parent .ensures .0 ∙ e)))
+returns c =
+    let a = c .before .before .before .before .before .args in
+    simp (ne-eqb (parentIn (now (a .nodes)) (a .n)) 0 (λ e. c .if1 .taken (c .before .node-parent .ensures .0 ∙ e)))
 
 node-first-requires : tie.Need-node-first-requires
 node-first-requires c κs = search needs
@@ -31,25 +35,30 @@ add-if2 c = search needs
 
 returns-2 : tie.Need-returns-2
 unfolding symlinkHolds
-returns-2 c = let t = treeOf (now (c .before .before .before .before .before .before .args .image)) in simp (lt-leb (t .first (c .before .before .before .before .before .before .args .n) + t .count (c .before .before .before .before .before .before .args .n)) (t .textLength) (omega arith), and-false)
+returns-2 c =
+    let a = c .before .before .before .before .before .before .before .args in
+    let s = now (a .nodes) in
+    simp (lt-leb (firstIn s (a .n) + countIn s (a .n)) (length (now (a .text))) (omega arith), and-false)
 
 returns-3 : tie.Need-returns-3
 unfolding symlinkHolds
-returns-3 c = let t = treeOf (now (c .before .before .before .before .before .before .before .args .image)) in simp (lt-leb 1 (t .count (c .before .before .before .before .before .before .before .args .n)) (omega arith), and-false)
+returns-3 c =
+    let a = c .before .before .before .before .before .before .before .before .args in
+    simp (lt-leb 1 (countIn (now (a .nodes)) (a .n)) (omega arith), and-false)
 
 returns-4 : tie.Need-returns-4
 unfolding symlinkHolds
-returns-4 c = let t = treeOf (now (c .before .before .before .before .before .before .before .before .args .image)) in simp (lt-leb (t .count (c .before .before .before .before .before .before .before .before .args .n)) 4095 (omega arith), and-false)
+returns-4 c =
+    let a = c .before .before .before .before .before .before .before .before .before .args in
+    simp (lt-leb (countIn (now (a .nodes)) (a .n)) 4095 (omega arith), and-false)
 
 returns-5 : tie.Need-returns-5
-unfolding symlinkHolds
 returns-5 c =
-    let s = now (c .before .before .before .before .before .before .before .before .before .args .image) in
-    let t = treeOf s in
-    let n = c .before .before .before .before .before .before .before .before .before .args .n in
-    let top : t .parent n ≡ 0 = sym (c .before .before .before .before .before .before .node-parent .ensures .0) ∙ c .before .before .before .before .before .if1 .left in
-    let zero = body-no-zero s n (c .before .before .before .before .before .before .before .before .before .pre .3 (c .if5 .taken)) in
-    rw (eq-eqb (t .parent n) 0 top, le-leb (t .first n + t .count n) (t .textLength) (omega arith), le-leb 1 (t .count n) (omega arith), le-leb (t .count n) 4095 (omega arith), zero)
+    let a = c .before .before .before .before .before .before .before .before .before .before .args in
+    let t = nodesTree (a .c) (now (a .nodes)) (now (a .text)) in
+    let top = sym (c .before .before .before .before .before .before .node-parent .ensures .0) ∙ c .before .before .before .before .before .if1 .left in
+    let clean = body-clean (a .c) (now (a .text)) _ _ (sym (c .before .before .before .before .before .before .before .before .before .before .pre .2) ∙ c .if5 .taken) in
+    sym (body-test t (a .n) top (omega arith) (omega arith) (omega arith) ∙ ap not clean)
 
 body-requires : tie.Need-body-requires
 body-requires c κs = search needs
@@ -58,13 +67,12 @@ holds-byte-requires : tie.Need-holds-byte-requires
 holds-byte-requires c κs = search needs
 
 returns-6 : tie.Need-returns-6
-unfolding symlinkHolds
 returns-6 c =
-    let t = treeOf (now (c .before .before .before .before .before .before .before .before .before .before .before .args .image)) in
-    let n = c .before .before .before .before .before .before .before .before .before .before .before .args .n in
-    let top : t .parent n ≡ 0 = sym (c .before .before .before .before .before .before .before .before .node-parent .ensures .0) ∙ c .before .before .before .before .before .before .before .if1 .left in
+    let a = c .before .before .before .before .before .before .before .before .before .before .before .before .args in
+    let t = nodesTree (a .c) (now (a .nodes)) (now (a .text)) in
+    let top = sym (c .before .before .before .before .before .before .before .before .node-parent .ensures .0) ∙ c .before .before .before .before .before .before .before .if1 .left in
     ap not (c .holds-byte .ensures ∙ ap (contains 0) (c .before .body .ensures))
-    ∙ rw (eq-eqb (t .parent n) 0 top, le-leb (t .first n + t .count n) (t .textLength) (omega arith), le-leb 1 (t .count n) (omega arith), le-leb (t .count n) 4095 (omega arith))
+    ∙ sym (body-test t (a .n) top (omega arith) (omega arith) (omega arith))
 
 pub symlink-holds-spec : {M : Type 1} → statement M
 symlink-holds-spec =

@@ -1,13 +1,13 @@
 -- `table_nodes::text_clean` meets its contract. Assumes nothing.
 use borrow.Author.Needs.{needs}
-use borrow.Author.Tests.{not-true}
-use Prim.Native.Nat.{ℕ}
-use mathlib.Core.Bool.{false≢true}
-use mathlib.Core.Path.{ap, _∙_, sym}
+use Prim.Native.Nat.{_+_, _/_}
+use mathlib.Core.Bool.{not}
+use mathlib.Core.Path.{ap, _∙_}
 use native.Mathlib.Omega.{arith}
-use lib.ListN.{drop}
+use borrow.Author.Tests.{le-leb, lt-leb}
+use lib.ListN.{length}
 use denote.Ref.{now}
-use Rattle.model.specs.Bytes.{contains}
+use Rattle.table_nodes.specs.Texts.{seenClean}
 use Rattle.table_nodes.proofs.text_clean.Statement.{statement}
 use Rattle.table_nodes.proofs.text_clean.Tie as tie
 
@@ -15,18 +15,19 @@ add-if1 : tie.Need-add-if1
 add-if1 c = search needs
 
 returns : tie.Need-returns
-returns c = λ e. absurd (false≢true e)
+unfolding seenClean
+returns c =
+    let a = c .before .before .before .args in
+    rw (lt-leb (16 + length (now (a .text)) / 32) (a .c .nodes) (omega arith))
 
-text-at-requires : tie.Need-text-at-requires
-text-at-requires c κs = search needs
-
-holds-from-requires : tie.Need-holds-from-requires
-holds-from-requires c κs = omega (arith, c .text-at .ensures .1)
+holds-byte-requires : tie.Need-holds-byte-requires
+holds-byte-requires c κs = search needs
 
 returns-2 : tie.Need-returns-2
-returns-2 c = λ e.
-    let s = now (c .before .before .before .before .before .args .image) in
-    ap (λ (k : ℕ). contains 0 (drop k s)) (sym (c .before .text-at .ensures .0)) ∙ sym (c .holds-from .ensures) ∙ not-true _ e
+unfolding seenClean
+returns-2 c =
+    let a = c .before .before .before .before .args in
+    ap not (c .holds-byte .ensures) ∙ rw (le-leb (16 + length (now (a .text)) / 32) (a .c .nodes) (omega arith))
 
 pub text-clean-spec : {M : Type 1} → statement M
-text-clean-spec = tie.close (tie.spec add-if1 returns text-at-requires holds-from-requires returns-2)
+text-clean-spec = tie.close (tie.spec add-if1 returns holds-byte-requires returns-2)

@@ -1,26 +1,25 @@
 -- `table_under::note_roots` meets its contract. The loop's invariant: the roots of the mounts passed are noted. Assumes nothing.
-use borrow.Author.Needs.{needs}
 use Prim.Native.Nat.{ℕ, _-_, _≤_}
 use mathlib.Core.Path.{_≡_, refl, subst, _∙_}
-use native.Mathlib.Omega.{arith}
 use denote.Ref.{now}
 use lib.ListN.{length}
-use Rattle.model.specs.Tree.{treeOf}
-use Rattle.table_under.specs.Roots.{Rooted}
+use native.Mathlib.Omega.{arith}
+use Rattle.model.specs.Tree.{mountRootIn}
+use Rattle.table_under.specs.Rows.{Rooted}
 use Rattle.table_under.proofs.note_roots.Statement.{statement}
 use Rattle.table_under.proofs.note_roots.Tie as tie
 
 abbrev Inv-loop : tie.InvT-loop
-Inv-loop image c near₀ end m₀ near m = (end ≡ treeOf image .mounts) × (m ≤ end) × Rooted (treeOf image) m near × (length near ≡ length near₀)
+Inv-loop mounts c near₀ end m₀ near m = (m ≤ end) × Rooted (c .nodes) (mountRootIn mounts) m near × (length near ≡ length near₀)
 
 abbrev μ-loop : tie.MeasureT-loop
-μ-loop image c near₀ end m₀ near m = end - m
+μ-loop mounts c near₀ end m₀ near m = end - m
 
 loop-holds : tie.Need-loop-holds Inv-loop μ-loop
-loop-holds c = (c .before .before .pre .0 .mounts-are, omega arith, c .before .before .pre .1, refl)
+loop-holds c = (omega arith, c .before .before .pre .1, refl)
 
 note-root-requires : tie.Need-note-root-requires Inv-loop μ-loop
-note-root-requires c κs = (c .before .before .before .before .before .pre .0, omega arith, c .before .before .loop .inv .2)
+note-root-requires c κs = (c .before .before .before .before .before .pre .0, omega arith, c .before .before .loop .inv .1)
 
 add-m : tie.Need-add-m Inv-loop μ-loop
 add-m c = omega arith
@@ -32,15 +31,27 @@ loop-again : tie.Need-loop-again Inv-loop μ-loop
 loop-again c =
     let l = c .before .before .before .before .before .loop in
     let note-root = c .before .before .note-root in
-    (l .inv .0, omega arith, note-root .ensures .0, note-root .ensures .1 ∙ l .inv .3)
+    (omega arith, note-root .ensures, note-root .kept .1 .1 .0 ∙ l .inv .2)
 
 same-length : tie.Need-same-length Inv-loop μ-loop
-same-length c = search needs
+same-length c = c .before .loop .inv .2
 
 returns : tie.Need-returns Inv-loop μ-loop
-returns c = (subst (λ (m : ℕ). Rooted (treeOf (now (c .before .before .before .before .args .image))) m (c .before .loop .near)) (omega arith) (c .before .loop .inv .2), c .before .loop .inv .3)
+returns c =
+    let a = c .before .before .before .before .args in
+    let l = c .before .loop in
+    subst (λ (m : ℕ). Rooted (a .c .nodes) (mountRootIn (now (a .mounts))) m (l .near)) (omega arith) (l .inv .1)
 
 pub note-roots-spec : {M : Type 1} → statement M
 note-roots-spec =
     tie.close
-    (tie.spec Inv-loop μ-loop loop-holds note-root-requires add-m loop-less loop-again same-length returns)
+    (tie.spec
+    Inv-loop
+    μ-loop
+    loop-holds
+    note-root-requires
+    add-m
+    loop-less
+    loop-again
+    same-length
+    returns)

@@ -1,33 +1,31 @@
--- `table_under::pass_down` meets its contract. The loop's invariant: the directories passed have their nearest root. Assumes nothing.
-use borrow.Author.Needs.{needs}
+-- `table_under::pass_down` meets its contract. The loop's invariant: what the lists have is what passing the nodes so far leaves. Assumes nothing.
 use Prim.Native.Nat.{ℕ, _-_, _≤_}
-use mathlib.Core.Path.{_≡_, refl, subst, _∙_}
+use mathlib.Core.Path.{_≡_, refl, sym, ap, subst, _∙_}
 use native.Mathlib.Omega.{arith}
 use denote.Ref.{now}
-use lib.ListN.{length, length-set}
-use Rattle.model.specs.Tree.{treeOf}
-use Rattle.table_under.specs.Roots.{Filled}
-use Rattle.table_under.proofs.NearLaws.{filled-none, filled-more}
+use lib.ListN.{length}
+use Rattle.model.specs.Tree.{parentIn}
+use Rattle.table_under.specs.Rows.{chart, passDown, Fitting}
+use Rattle.table_under.proofs.NearLaws.{down-more, passed-fitting}
 use Rattle.table_under.proofs.pass_down.Statement.{statement}
 use Rattle.table_under.proofs.pass_down.Tie as tie
 
 abbrev Inv-loop : tie.InvT-loop
-Inv-loop image near₀ end n₀ near n = (end ≡ treeOf image .nodes) × (n ≤ end) × Filled (treeOf image) n near × (length near ≡ length near₀)
+Inv-loop nodes near₀ rows₀ end n₀ near rows n = (n ≤ end) × Fitting (chart near rows)
+    × (chart near rows ≡ passDown (parentIn nodes) n (chart near₀ rows₀)) × (length near ≡ length near₀) × (length rows ≡ length rows₀)
 
 abbrev μ-loop : tie.MeasureT-loop
-μ-loop image near₀ end n₀ near n = end - n
+μ-loop nodes near₀ rows₀ end n₀ near rows n = end - n
 
 loop-holds : tie.Need-loop-holds Inv-loop μ-loop
-loop-holds c = (c .before .before .pre .0 .nodes-are, omega arith, filled-none _ _ (c .before .before .pre .2), refl)
+unfolding passDown
+loop-holds c = (omega arith, c .before .before .before .pre .2, refl, refl, refl)
 
-nearest-requires : tie.Need-nearest-requires Inv-loop μ-loop
-nearest-requires c κs = (c .before .before .before .before .before .pre .0 .sized, omega arith, omega (arith, c .before .before .loop .inv .2 .room))
-
-mul-near : tie.Need-mul-near Inv-loop μ-loop
-mul-near c = search needs
-
-slice-write-near : tie.Need-slice-write-near Inv-loop μ-loop
-slice-write-near c = omega (arith, c .before .before .before .loop .inv .2 .room)
+pass-to-requires : tie.Need-pass-to-requires Inv-loop μ-loop
+pass-to-requires c κs =
+    let p = c .before .before .before .before .before .before .before .pre in
+    let l = c .before .before .before .loop in
+    (omega (arith, p .0 .whole), omega (arith, p .1, l .inv .3), l .inv .1)
 
 add-n : tie.Need-add-n Inv-loop μ-loop
 add-n c = omega arith
@@ -37,22 +35,29 @@ loop-less c = omega arith
 
 loop-again : tie.Need-loop-again Inv-loop μ-loop
 loop-again c =
-    let a = c .before .before .before .before .before .before .args in
-    let p = c .before .before .before .before .before .before .pre in
-    let l = c .before .before .before .loop in
-    let t = treeOf (now (a .image)) in
-    let n = l .n in (
-      l .inv .0,
+    let a = c .before .before .before .before .before .before .before .before .before .before .before .before .args in
+    let p = c .before .before .before .before .before .before .before .before .before .before .before .before .pre in
+    let l = c .before .before .before .before .before .before .before .before .loop in
+    let pass-to = c .before .before .before .before .pass-to in
+    let s = chart (l .near) (l .rows) in (
       omega arith,
-      rw (c .nearest .ensures) (filled-more t (p .1) n (l .near) (l .inv .2) (omega arith)),
-      length-set (l .near) n (c .nearest .result) ∙ l .inv .3,
+      subst Fitting (sym (pass-to .ensures)) (passed-fitting (parentIn (now (a .nodes))) (l .n) s (l .inv .1) (omega (arith, p .1, l .inv .3))),
+      down-more _ _ _ (l .inv .2) (pass-to .ensures),
+      pass-to .kept .1 .0 ∙ l .inv .3,
+      pass-to .kept .1 .1 .0 ∙ l .inv .4,
     )
 
 same-length : tie.Need-same-length Inv-loop μ-loop
-same-length c = search needs
+same-length c = c .before .loop .inv .3
+
+same-length-2 : tie.Need-same-length-2 Inv-loop μ-loop
+same-length-2 c = c .before .loop .inv .4
 
 returns : tie.Need-returns Inv-loop μ-loop
-returns c = (subst (λ (n : ℕ). Filled (treeOf (now (c .before .before .before .before .args .image))) n (c .before .loop .near)) (omega arith) (c .before .loop .inv .2), c .before .loop .inv .3)
+returns c =
+    let a = c .before .before .before .before .before .args in
+    let l = c .before .loop in
+    l .inv .2 ∙ ap (λ (n : ℕ). passDown (parentIn (now (a .nodes))) n (chart (now (a .near)) (now (a .rows)))) (omega arith)
 
 pub pass-down-spec : {M : Type 1} → statement M
 pass-down-spec =
@@ -61,11 +66,10 @@ pass-down-spec =
     Inv-loop
     μ-loop
     loop-holds
-    nearest-requires
-    mul-near
-    slice-write-near
+    pass-to-requires
     add-n
     loop-less
     loop-again
     same-length
+    same-length-2
     returns)

@@ -11,7 +11,7 @@ use Rattle.theorems.proofs.Acceptance.{accepted-sound}
 use Rattle.theorems.proofs.ByteLaws.{find-here, find-on, find-done}
 use Rattle.theorems.proofs.MountLaws.{onPlace, mount-on-above, mount-on-root}
 use Rattle.theorems.proofs.StringLaws.{packed-same, packed-other}
-use Rattle.image.specs.Searches.{searchOf}
+use Rattle.parts.specs.Searches.{searchOf}
 use Rattle.tree.proofs.find_mount.Statement.{statement}
 use Rattle.tree.proofs.find_mount.Tie as tie
 
@@ -26,69 +26,94 @@ add-m c = omega (arith, c .before .pre .0 .sized .few-mounts)
 
 returns : tie.Need-returns Inv-loop μ-loop
 returns c =
-    let t = treeOf (now (c .before .before .args .image)) in
-    let p = c .before .before .args .mount in
-    let n = c .before .before .args .node in
+    let args = c .before .before .args in
+    let pre = c .before .before .pre in
+    let t = treeOf (now (args .image)) in
+    let p = args .mount in
+    let n = args .node in
     let test = onPlace t p n in
-    let mounts = accepted-sound (now (c .before .before .args .image)) (c .before .before .pre .1) .mounts-hold in
-    sym (ap searchOf (mount-on-above t mounts p n (c .before .before .pre .2) ∙ find-done test (p + 1) (t .mounts) (omega (arith, c .before .before .pre .0 .mounts-are))))
+    let mounts = accepted-sound (now (args .image)) (pre .1) .mounts-hold in
+    sym (ap searchOf (mount-on-above t mounts p n (pre .2) ∙ find-done test (p + 1) (t .mounts) (omega (arith, pre .0 .mounts-are))))
 
 mount-root-requires : tie.Need-mount-root-requires Inv-loop μ-loop
-mount-root-requires c κs = (c .before .before .pre .0, c .before .before .pre .2)
+mount-root-requires c κs =
+    let pre = c .before .before .pre in
+    (pre .0, pre .2)
 
 returns-2 : tie.Need-returns-2 Inv-loop μ-loop
 returns-2 c =
-    let t = treeOf (now (c .before .before .before .before .args .image)) in
-    let p = c .before .before .before .before .args .mount in
-    let n = c .before .before .before .before .args .node in
-    let mounts = accepted-sound (now (c .before .before .before .before .args .image)) (c .before .before .before .before .pre .1) .mounts-hold in
-    sym (ap searchOf (mount-on-root t mounts p n (c .before .before .before .before .pre .2) (c .if2 .taken ∙ c .before .mount-root .ensures .0)))
+    let args = c .before .before .before .before .args in
+    let pre = c .before .before .before .before .pre in
+    let t = treeOf (now (args .image)) in
+    let p = args .mount in
+    let n = args .node in
+    let mounts = accepted-sound (now (args .image)) (pre .1) .mounts-hold in
+    sym (ap searchOf (mount-on-root t mounts p n (pre .2) (c .if2 .taken ∙ c .before .mount-root .ensures .0)))
 
 mul-wanted : tie.Need-mul-wanted Inv-loop μ-loop
 mul-wanted c = omega (arith, c .before .before .before .before .pre .0 .sized .few-nodes)
 
 add-wanted : tie.Need-add-wanted Inv-loop μ-loop
-add-wanted c = omega (arith, c .before .before .before .before .pre .0 .sized .few-nodes, c .before .before .before .before .pre .0 .sized .few-mounts)
+add-wanted c =
+    let pre = c .before .before .before .before .pre in
+    omega (arith, pre .0 .sized .few-nodes, pre .0 .sized .few-mounts)
 
 loop-holds : tie.Need-loop-holds Inv-loop μ-loop
 loop-holds c =
-    let t = treeOf (now (c .before .before .before .before .args .image)) in
-    let p = c .before .before .before .before .args .mount in
-    let n = c .before .before .before .before .args .node in
+    let args = c .before .before .before .before .args in
+    let pre = c .before .before .before .before .pre in
+    let t = treeOf (now (args .image)) in
+    let p = args .mount in
+    let n = args .node in
     let test = onPlace t p n in
-    let mounts = accepted-sound (now (c .before .before .before .before .args .image)) (c .before .before .before .before .pre .1) .mounts-hold in
-    (c .before .before .before .before .pre .0 .mounts-are, omega (arith, c .before .before .before .before .pre .0 .mounts-are), mount-on-above t mounts p n (c .before .before .before .before .pre .2) ∙ ap (λ (k : ℕ). find test (p + 1) (k - (p + 1))) (sym (c .before .before .before .before .pre .0 .mounts-are)))
+    let mounts = accepted-sound (now (args .image)) (pre .1) .mounts-hold in
+    (pre .0 .mounts-are, omega (arith, pre .0 .mounts-are), mount-on-above t mounts p n (pre .2) ∙ ap (λ (k : ℕ). find test (p + 1) (k - (p + 1))) (sym (pre .0 .mounts-are)))
 
 packed-point-requires : tie.Need-packed-point-requires Inv-loop μ-loop
 packed-point-requires c κs = (c .before .before .before .before .before .before .pre .0, omega (arith, c .before .loop .inv .0))
 
 returns-3 : tie.Need-returns-3 Inv-loop μ-loop
 returns-3 c =
-    let t = treeOf (now (c .before .before .before .before .before .before .before .before .args .image)) in
-    let p = c .before .before .before .before .before .before .before .before .args .mount in
-    let n = c .before .before .before .before .before .before .before .before .args .node in
+    let args = c .before .before .before .before .before .before .before .before .args in
+    let loop = c .before .before .before .loop in
+    let pre = c .before .before .before .before .before .before .before .before .pre in
+    let test2 = c .before .before .loop-test in
+    let packed-point = c .before .packed-point in
+    let t = treeOf (now (args .image)) in
+    let p = args .mount in
+    let n = args .node in
     let test = onPlace t p n in
-    let m = c .before .before .before .loop .m in
-    let cut : m ≡ m % 65536 = omega (arith, c .before .before .before .loop .inv .0, c .before .before .before .before .before .before .before .before .pre .0 .sized .few-mounts) in
-    sym (ap searchOf (c .before .before .before .loop .inv .2 ∙ find-here test m _ (c .before .before .loop-test .taken) (packed-same (t .mountParent m) (t .mountPoint m) p n (c .before .packed-point .ensures .1) (omega (arith, c .before .before .before .before .before .before .before .before .pre .0 .sized .few-mounts)) (sym (c .before .packed-point .ensures .0) ∙ c .if3 .taken)) ∙ ap some cut))
+    let m = loop .m in
+    let cut : m ≡ m % 65536 = omega (arith, loop .inv .0, pre .0 .sized .few-mounts) in
+    sym (ap searchOf (loop .inv .2 ∙ find-here test m _ (test2 .taken) (packed-same (t .mountParent m) (t .mountPoint m) p n (packed-point .ensures .1) (omega (arith, pre .0 .sized .few-mounts)) (sym (packed-point .ensures .0) ∙ c .if3 .taken)) ∙ ap some cut))
 
 add-m-2 : tie.Need-add-m-2 Inv-loop μ-loop
-add-m-2 c = omega (arith, c .before .before .before .loop .inv .0, c .before .before .before .before .before .before .before .before .pre .0 .sized .few-mounts)
+add-m-2 c =
+    let loop = c .before .before .before .loop in
+    let pre = c .before .before .before .before .before .before .before .before .pre in
+    omega (arith, loop .inv .0, pre .0 .sized .few-mounts)
 
 loop-less : tie.Need-loop-less Inv-loop μ-loop
 loop-less c = omega arith
 
 loop-again : tie.Need-loop-again Inv-loop μ-loop
 loop-again c =
-    let t = treeOf (now (c .before .before .before .before .before .before .before .before .args .image)) in
-    let p = c .before .before .before .before .before .before .before .before .args .mount in
-    let n = c .before .before .before .before .before .before .before .before .args .node in
+    let args = c .before .before .before .before .before .before .before .before .args in
+    let loop = c .before .before .before .loop in
+    let test2 = c .before .before .loop-test in
+    let packed-point = c .before .packed-point in
+    let t = treeOf (now (args .image)) in
+    let p = args .mount in
+    let n = args .node in
     let test = onPlace t p n in
-    let m = c .before .before .before .loop .m in
-    (c .before .before .before .loop .inv .0, omega arith, c .before .before .before .loop .inv .2 ∙ find-on test m _ (c .before .before .loop-test .taken) (packed-other (t .mountParent m) (t .mountPoint m) p n (λ e. c .if3 .left (c .before .packed-point .ensures .0 ∙ e))))
+    let m = loop .m in
+    (loop .inv .0, omega arith, loop .inv .2 ∙ find-on test m _ (test2 .taken) (packed-other (t .mountParent m) (t .mountPoint m) p n (λ e. c .if3 .left (packed-point .ensures .0 ∙ e))))
 
 returns-4 : tie.Need-returns-4 Inv-loop μ-loop
-returns-4 c = sym (ap searchOf (c .before .loop .inv .2 ∙ find-done (onPlace (treeOf (now (c .before .before .before .before .before .before .args .image))) (c .before .before .before .before .before .before .args .mount) (c .before .before .before .before .before .before .args .node)) (c .before .loop .m) _ (c .loop-test .left)))
+returns-4 c =
+    let loop = c .before .loop in
+    let args = c .before .before .before .before .before .before .args in
+    sym (ap searchOf (loop .inv .2 ∙ find-done (onPlace (treeOf (now (args .image))) (args .mount) (args .node)) (loop .m) _ (c .loop-test .left)))
 
 pub find-mount-spec : {M : Type 1} → statement M
 find-mount-spec =

@@ -12,14 +12,18 @@ use Rattle.tree.proofs.is_directory.Tie as tie
 
 returns : tie.Need-returns
 unfolding isDirectory
-returns c = rw (le-ltb (c .before .before .before .args .n) (treeOf (now (c .before .before .before .args .image)) .nodes) (omega arith))
+returns c =
+    let args = c .before .before .before .args in
+    rw (le-ltb (args .n) (treeOf (now (args .image)) .nodes) (omega arith))
 
 node-kind-requires : tie.Need-node-kind-requires
 node-kind-requires c κs = search needs
 
 returns-2 : tie.Need-returns-2
 unfolding isDirectory
-returns-2 c = ap (λ (k : ℕ). eqb k 1) (c .node-kind .ensures .0) ∙ rw (lt-ltb (c .before .before .before .before .args .n) (treeOf (now (c .before .before .before .before .args .image)) .nodes) (omega arith))
+returns-2 c =
+    let args = c .before .before .before .before .args in
+    ap (λ (k : ℕ). eqb k 1) (c .node-kind .ensures .0) ∙ rw (lt-ltb (args .n) (treeOf (now (args .image)) .nodes) (omega arith))
 
 pub is-directory-spec : {M : Type 1} → statement M
 is-directory-spec = tie.close (tie.spec returns node-kind-requires returns-2)

@@ -15,16 +15,28 @@ name-length-requires : tie.Need-name-length-requires
 name-length-requires c κs = search needs
 
 returns : tie.Need-returns
-returns c = sym (differing (treeOf (now (c .before .before .before .before .args .image)) .name (c .before .before .before .before .args .e)) (now (c .before .before .before .before .args .wanted)) (λ q. omega (arith, c .before .name-length .ensures .0, name-whole (now (c .before .before .before .before .args .image)) (c .before .before .before .before .args .e) (c .before .before .before .before .pre .0 .sized) (c .before .before .before .before .pre .2))))
+returns c =
+    let args = c .before .before .before .before .args in
+    let name-length = c .before .name-length in
+    let pre = c .before .before .before .before .pre in
+    sym (differing (treeOf (now (args .image)) .name (args .e)) (now (args .wanted)) (λ q. omega (arith, name-length .ensures .0, name-whole (now (args .image)) (args .e) (pre .0 .sized) (pre .2))))
 
 name-requires : tie.Need-name-requires
 name-requires c κs = search needs
 
 same-sized-requires : tie.Need-same-sized-requires
-same-sized-requires c κs = ap length (c .name .ensures) ∙ name-whole (now (c .before .before .before .before .before .args .image)) (c .before .before .before .before .before .args .e) (c .before .before .before .before .before .pre .0 .sized) (c .before .before .before .before .before .pre .2) ∙ sym (c .before .before .name-length .ensures .0) ∙ c .before .if1 .left
+same-sized-requires c κs =
+    let args = c .before .before .before .before .before .args in
+    let pre = c .before .before .before .before .before .pre in
+    let name-length = c .before .before .name-length in
+    let if1 = c .before .if1 in
+    ap length (c .name .ensures) ∙ name-whole (now (args .image)) (args .e) (pre .0 .sized) (pre .2) ∙ sym (name-length .ensures .0) ∙ if1 .left
 
 returns-2 : tie.Need-returns-2
-returns-2 c = c .same-sized .ensures ∙ ap (λ x. sameBytes x (now (c .before .before .before .before .before .before .args .wanted))) (c .before .name .ensures)
+returns-2 c =
+    let args = c .before .before .before .before .before .before .args in
+    let name = c .before .name in
+    c .same-sized .ensures ∙ ap (λ x. sameBytes x (now (args .wanted))) (name .ensures)
 
 pub is-named-spec : {M : Type 1} → statement M
 is-named-spec =

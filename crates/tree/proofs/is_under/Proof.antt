@@ -22,25 +22,46 @@ loop-holds : tie.Need-loop-holds Inv-loop μ-loop
 loop-holds c = (c .before .pre .2, refl)
 
 node-parent-requires : tie.Need-node-parent-requires Inv-loop μ-loop
-node-parent-requires c κs = (c .before .before .before .pre .0, directory-below (treeOf (now (c .before .before .before .args .image))) (c .before .before .before .pre .1) (c .before .loop .k) (c .before .loop .inv .0))
+node-parent-requires c κs =
+    let pre = c .before .before .before .pre in
+    let args = c .before .before .before .args in
+    let loop = c .before .loop in
+    (pre .0, directory-below (treeOf (now (args .image))) (pre .1) (loop .k) (loop .inv .0))
 
 returns : tie.Need-returns Inv-loop μ-loop
 returns c =
-    let t = treeOf (now (c .before .before .before .before .before .args .image)) in
-    sym (c .before .before .before .loop .inv .1 ∙ under-top t (c .before .before .before .before .before .pre .1) (c .before .before .before .before .before .args .root) (c .before .before .before .loop .k) (sym (c .before .node-parent .ensures .0) ∙ c .if1 .taken) ∙ ne-eqb (c .before .before .before .loop .k) (c .before .before .before .before .before .args .root) (λ e. omega arith))
+    let args = c .before .before .before .before .before .args in
+    let loop = c .before .before .before .loop in
+    let pre = c .before .before .before .before .before .pre in
+    let node-parent = c .before .node-parent in
+    let t = treeOf (now (args .image)) in
+    sym (loop .inv .1 ∙ under-top t (pre .1) (args .root) (loop .k) (sym (node-parent .ensures .0) ∙ c .if1 .taken) ∙ ne-eqb (loop .k) (args .root) (λ e. omega arith))
 
 loop-less : tie.Need-loop-less Inv-loop μ-loop
-loop-less c = let t = treeOf (now (c .before .before .before .before .before .args .image)) in omega (arith, parent-le t (c .before .before .before .before .before .pre .1) (c .before .before .before .loop .k) (c .before .before .before .loop .inv .0), c .before .node-parent .ensures .0)
+loop-less c =
+    let args = c .before .before .before .before .before .args in
+    let pre = c .before .before .before .before .before .pre in
+    let loop = c .before .before .before .loop in
+    let node-parent = c .before .node-parent in
+    let t = treeOf (now (args .image)) in omega (arith, parent-le t (pre .1) (loop .k) (loop .inv .0), node-parent .ensures .0)
 
 loop-again : tie.Need-loop-again Inv-loop μ-loop
 loop-again c =
-    let t = treeOf (now (c .before .before .before .before .before .args .image)) in (
-      subst (λ (k : ℕ). isDirectory t k ≡ true) (sym (c .before .node-parent .ensures .0)) (parent-directory t (c .before .before .before .before .before .pre .1) (c .before .before .before .loop .k) (c .before .before .before .loop .inv .0)),
-      c .before .before .before .loop .inv .1 ∙ under-parent t (c .before .before .before .before .before .pre .1) (c .before .before .before .before .before .args .root) (c .before .before .before .loop .k) (c .before .before .before .loop .inv .0) ∙ rw (ne-eqb (c .before .before .before .loop .k) (c .before .before .before .before .before .args .root) (λ e. omega arith)) (ap (λ (k : ℕ). under t k (c .before .before .before .before .before .args .root)) (sym (c .before .node-parent .ensures .0))),
+    let args = c .before .before .before .before .before .args in
+    let node-parent = c .before .node-parent in
+    let pre = c .before .before .before .before .before .pre in
+    let loop = c .before .before .before .loop in
+    let t = treeOf (now (args .image)) in (
+      subst (λ (k : ℕ). isDirectory t k ≡ true) (sym (node-parent .ensures .0)) (parent-directory t (pre .1) (loop .k) (loop .inv .0)),
+      loop .inv .1 ∙ under-parent t (pre .1) (args .root) (loop .k) (loop .inv .0) ∙ rw (ne-eqb (loop .k) (args .root) (λ e. omega arith)) (ap (λ (k : ℕ). under t k (args .root)) (sym (node-parent .ensures .0))),
     )
 
 returns-2 : tie.Need-returns-2 Inv-loop μ-loop
-returns-2 c = sym (c .before .loop .inv .1 ∙ under-met (treeOf (now (c .before .before .before .args .image))) (c .before .before .before .pre .1) (c .before .before .before .args .root) (c .before .loop .k) (c .before .loop .inv .0) (c .loop-test .left))
+returns-2 c =
+    let loop = c .before .loop in
+    let args = c .before .before .before .args in
+    let pre = c .before .before .before .pre in
+    sym (loop .inv .1 ∙ under-met (treeOf (now (args .image))) (pre .1) (args .root) (loop .k) (loop .inv .0) (c .loop-test .left))
 
 pub is-under-spec : {M : Type 1} → statement M
 is-under-spec =

@@ -9,7 +9,7 @@ use Rattle.model.specs.Tree.{treeOf, under, mountOn, covered}
 use Rattle.model.specs.Handles.{placeOf}
 use Rattle.theorems.proofs.Acceptance.{accepted-sound}
 use Rattle.open_how.specs.Checks.{checkOf}
-use Rattle.image.proofs.SearchLaws.{search-at, search-nowhere}
+use Rattle.parts.proofs.SearchLaws.{search-at, search-nowhere}
 use Rattle.call.proofs.HandleLaws.{no-mount, no-node, no-directory, not-under, is-covered, is-good}
 use Rattle.call.proofs.handle.check_handle.Statement.{statement}
 use Rattle.call.proofs.handle.check_handle.Tie as tie
@@ -42,7 +42,7 @@ mount-root-requires : tie.Need-mount-root-requires
 mount-root-requires c κs = search needs
 
 is-under-requires : tie.Need-is-under-requires
-is-under-requires c κs = (c .before .before .before .before .before .before .before .before .before .before .pre .0 .sized, accepted-sound (now (c .before .before .before .before .before .before .before .before .before .before .args .image)) (c .before .before .before .before .before .before .before .before .before .before .pre .1) .nodes-hold, sym (c .before .before .is-directory .ensures) ∙ not-false _ (c .before .if3 .left))
+is-under-requires c κs = (c .before .before .before .before .before .before .before .before .before .before .pre .0 .sized, accepted-sound (now (c .before .before .before .before .before .before .before .before .before .before .args .image)) (c .before .before .before .before .before .before .before .before .before .before .pre .1) .nodes-hold .directories-hold, sym (c .before .before .is-directory .ensures) ∙ not-false _ (c .before .if3 .left))
 
 refuse-requires-4 : tie.Need-refuse-requires-4
 refuse-requires-4 c κs = search needs

@@ -8,7 +8,7 @@ use Rattle.model.specs.Tree.{treeOf, mountOn}
 use Rattle.model.specs.Trace.{forbids, row, firstSet, forbidAny}
 use Rattle.model.specs.Walk.{placeAt, rootOf, enter}
 use Rattle.theorems.proofs.Acceptance.{mount-on-below}
-use Rattle.image.proofs.SearchLaws.{search-at, search-nowhere}
+use Rattle.parts.proofs.SearchLaws.{search-at, search-nowhere}
 use Rattle.component.specs.declared.Outcome.the-variants.{Go}
 use Rattle.component.proofs.moves.enter.Statement.{statement}
 use Rattle.component.proofs.moves.enter.Tie as tie

@@ -14,14 +14,14 @@ node-parent-requires : tie.Need-node-parent-requires
 node-parent-requires c κs =
     let args = c .before .args in
     let pre = c .before .pre in
-    (pre .0 .counted .sized, directory-below (treeOf (now (args .image))) (accepted-sound (now (args .image)) (pre .0 .accepted) .nodes-hold) (args .p .node) (pre .2))
+    (pre .0 .counted .sized, directory-below (treeOf (now (args .image))) (accepted-sound (now (args .image)) (pre .0 .accepted) .nodes-hold .directories-hold) (args .p .node) (pre .2))
 
 enter-requires : tie.Need-enter-requires
 enter-requires c κs =
     let args = c .before .before .args in
     let pre = c .before .before .pre in
     let t = treeOf (now (args .image)) in
-    let nodes = accepted-sound (now (args .image)) (pre .0 .accepted) .nodes-hold in
+    let nodes = accepted-sound (now (args .image)) (pre .0 .accepted) .nodes-hold .directories-hold in
     let below = directory-below t nodes (t .parent (args .p .node)) (parent-directory t nodes (args .p .node) (pre .2)) in
     (pre .0, record { mount-below = pre .1; node-below = omega (arith, c .node-parent .ensures .0, below) })
 

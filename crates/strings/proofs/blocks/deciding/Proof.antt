@@ -1,8 +1,7 @@
 -- `strings::blocks::deciding` meets its contract. Assumes nothing.
-use mathlib.Core.Path.{sym, _∙_}
 use native.Mathlib.Omega.{arith}
 use denote.Ref.{now}
-use Rattle.strings.proofs.BlockLaws.{lower-half, upper-half}
+use Rattle.strings.proofs.BlockLaws.{lower-part, upper-part, loads-same, loads-differ}
 use borrow.Author.Needs.{needs}
 use Rattle.strings.proofs.blocks.deciding.Statement.{statement}
 use Rattle.strings.proofs.blocks.deciding.Tie as tie
@@ -13,28 +12,38 @@ deciding-four-requires c κs = search needs
 returns : tie.Need-returns
 returns c = search needs
 
-deciding-eight-requires : tie.Need-deciding-eight-requires
-deciding-eight-requires c κs = search needs
+deciding-long-requires : tie.Need-deciding-long-requires
+deciding-long-requires c κs = search needs
 
 u32-at-requires : tie.Need-u32-at-requires
-u32-at-requires c κs = omega (arith, c .deciding-eight .ensures .within)
+u32-at-requires c κs = omega (arith, c .deciding-long .ensures .within)
 
 u32-at-requires-2 : tie.Need-u32-at-requires-2
-u32-at-requires-2 c κs = omega (arith, c .before .deciding-eight .ensures .within)
+u32-at-requires-2 c κs = omega (arith, c .before .deciding-long .ensures .within)
 
 returns-2 : tie.Need-returns-2
-returns-2 c = lower-half (c .before .before .before .deciding-eight .ensures) (omega arith) (λ e. c .if2 .taken (c .before .before .u32-at .ensures .0 ∙ e ∙ sym (c .before .u32-at2 .ensures .0)))
+returns-2 c =
+    let long = c .before .before .before .deciding-long in
+    let args = c .before .before .before .before .before .before .before .args in
+    let a = now (args .a) in
+    let b = now (args .b) in
+    lower-part 4 4 (long .ensures) (omega arith)
+    (loads-differ 4 a b (long .result) (c .before .before .u32-at .ensures .0) (c .before .u32-at2 .ensures .0) (c .if2 .taken))
 
 add-result : tie.Need-add-result
-add-result c = omega (arith, c .before .before .before .deciding-eight .ensures .within)
+add-result c = omega (arith, c .before .before .before .deciding-long .ensures .within)
 
 returns-3 : tie.Need-returns-3
 returns-3 c =
-    upper-half
+    let long = c .before .before .before .deciding-long in
+    let args = c .before .before .before .before .before .before .before .args in
+    let a = now (args .a) in
+    let b = now (args .b) in
+    upper-part 4 4 (long .ensures)
     (λ k. omega (arith, c .before .before .before .before .before .before .shared-slice-known .given k))
     (λ k. omega (arith, c .before .before .before .before .before .shared-slice-known2 .given k))
-    (c .before .before .before .deciding-eight .ensures) (omega arith)
-    (sym (c .before .before .u32-at .ensures .0) ∙ c .if2 .left ∙ c .before .u32-at2 .ensures .0)
+    (omega arith)
+    (loads-same 4 a b (long .result) (c .before .before .u32-at .ensures .0) (c .before .u32-at2 .ensures .0) (c .if2 .left))
 
 pub deciding-spec : {M : Type 1} → statement M
-deciding-spec = tie.close (tie.spec deciding-four-requires returns deciding-eight-requires u32-at-requires u32-at-requires-2 returns-2 add-result returns-3)
+deciding-spec = tie.close (tie.spec deciding-four-requires returns deciding-long-requires u32-at-requires u32-at-requires-2 returns-2 add-result returns-3)

@@ -36,28 +36,31 @@ loop-less c = omega arith
 loop-again : tie.Need-loop-again Inv-loop μ-loop
 loop-again c =
     let s = now (c .before .before .before .before .before .before .args .s) in
-    let i = c .before .before .before .before .before .loop .i in
+    let l = c .before .before .before .before .before .loop in
     let h = c .before .before .before .before .loop-test .taken in (
       omega arith,
       ⊎-elim
-          (λ w. seen-hit 0 s i (c .before .before .before .before .before .loop .zero) h (c .before .before .before .before .before .loop .inv .1) (w .0 .taken) ∙ rw (w .1))
-          (λ w. seen-miss 0 s i (c .before .before .before .before .before .loop .zero) h (c .before .before .before .before .before .loop .inv .1) (w .0 .left) ∙ rw (w .1))
+          (λ w. seen-hit 0 s (l .i) (l .zero) h (l .inv .1) (w .0 .taken) ∙ rw (w .1))
+          (λ w. seen-miss 0 s (l .i) (l .zero) h (l .inv .1) (w .0 .left) ∙ rw (w .1))
           (c .before .before .if1 .came),
       ⊎-elim
-          (λ w. seen-hit 47 s i (c .before .before .before .before .before .loop .slash) h (c .before .before .before .before .before .loop .inv .2) (w .0 .taken) ∙ rw (w .1))
-          (λ w. seen-miss 47 s i (c .before .before .before .before .before .loop .slash) h (c .before .before .before .before .before .loop .inv .2) (w .0 .left) ∙ rw (w .1))
+          (λ w. seen-hit 47 s (l .i) (l .slash) h (l .inv .2) (w .0 .taken) ∙ rw (w .1))
+          (λ w. seen-miss 47 s (l .i) (l .slash) h (l .inv .2) (w .0 .left) ∙ rw (w .1))
           (c .if2 .came),
     )
 
 returns : tie.Need-returns Inv-loop μ-loop
 returns c =
-    let s = now (c .before .before .before .args .s) in
-    rw (sym (seen-all 0 s (c .before .before .loop .i) (c .before .before .loop .zero) (c .before .loop-test .left) (c .before .before .loop .inv .1)) ∙ c .if3 .taken)
+    let l = c .before .before .loop in
+    rw (sym (seen-all 0 (now (c .before .before .before .args .s)) (l .i) (l .zero) (c .before .loop-test .left) (l .inv .1)) ∙ c .if3 .taken)
 
 returns-2 : tie.Need-returns-2 Inv-loop μ-loop
 returns-2 c =
     let s = now (c .before .before .before .args .s) in
-    rw (sym (seen-all 0 s (c .before .before .loop .i) (c .before .before .loop .zero) (c .before .loop-test .left) (c .before .before .loop .inv .1)) ∙ c .if3 .left) (seen-all 47 s (c .before .before .loop .i) (c .before .before .loop .slash) (c .before .loop-test .left) (c .before .before .loop .inv .2))
+    let l = c .before .before .loop in
+    let done = c .before .loop-test .left in
+    let zero = seen-all 0 s (l .i) (l .zero) done (l .inv .1) in
+    rw (sym zero ∙ c .if3 .left) (seen-all 47 s (l .i) (l .slash) done (l .inv .2))
 
 pub long-holds-forbidden-spec : {M : Type 1} → statement M
 long-holds-forbidden-spec =

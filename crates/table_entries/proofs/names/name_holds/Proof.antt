@@ -1,15 +1,17 @@
--- `table_entries::names::name_holds` meets its contract: each return is a test of the name that fails, or the last one. Assumes nothing.
+-- `table_entries::names::name_holds` meets its contract: each return is a part of the sentence that fails, or the last one.
+-- Assumes nothing.
 use borrow.Author.Needs.{needs}
 use Prim.Native.Nat.{_+_}
 use mathlib.Core.Bool.{not, and-false}
+use mathlib.Core.List.{[]}
 use mathlib.Core.Path.{ap, _∙_, sym}
 use native.Mathlib.Omega.{arith}
 use borrow.Author.Tests.{le-leb, lt-leb}
 use lib.ListN.{length}
 use denote.Ref.{now}
 use Rattle.model.specs.Bytes.{contains}
-use Rattle.model.specs.Tree.{treeOf}
-use Rattle.theorems.proofs.Acceptance.{name-whole}
+use Rattle.theorems.proofs.PartLaws.{part-whole}
+use Rattle.parts.specs.Parts.{entriesTree}
 use Rattle.table_entries.proofs.NameLaws.{forbids, dots, name-test, name-clean}
 use Rattle.table_entries.proofs.names.name_holds.Statement.{statement}
 use Rattle.table_entries.proofs.names.name_holds.Tie as tie
@@ -24,39 +26,57 @@ add-if1 : tie.Need-add-if1
 add-if1 c = search needs
 
 returns : tie.Need-returns
-returns c = let t = treeOf (now (c .before .before .before .before .args .image)) in sym (name-test t (c .before .before .before .before .args .e) ∙ rw (lt-leb (t .nameOffset (c .before .before .before .before .args .e) + t .nameLength (c .before .before .before .before .args .e)) (t .textLength) (omega arith)))
+returns c =
+    let a = c .before .before .before .before .before .args in
+    let t = entriesTree (a .c) [] (now (a .entries)) (now (a .text)) in
+    sym (name-test t (a .e) ∙ rw (lt-leb (t .nameOffset (a .e) + t .nameLength (a .e)) (t .textLength) (omega arith)))
 
 returns-2 : tie.Need-returns-2
-returns-2 c = let t = treeOf (now (c .before .before .before .before .before .args .image)) in sym (name-test t (c .before .before .before .before .before .args .e) ∙ simp (lt-leb 1 (t .nameLength (c .before .before .before .before .before .args .e)) (omega arith), and-false))
+returns-2 c =
+    let a = c .before .before .before .before .before .before .args in
+    let t = entriesTree (a .c) [] (now (a .entries)) (now (a .text)) in
+    sym (name-test t (a .e) ∙ simp (lt-leb 1 (t .nameLength (a .e)) (omega arith), and-false))
 
 returns-3 : tie.Need-returns-3
-returns-3 c = let t = treeOf (now (c .before .before .before .before .before .before .args .image)) in sym (name-test t (c .before .before .before .before .before .before .args .e) ∙ simp (lt-leb (t .nameLength (c .before .before .before .before .before .before .args .e)) 255 (omega arith), and-false))
+returns-3 c =
+    let a = c .before .before .before .before .before .before .before .args in
+    let t = entriesTree (a .c) [] (now (a .entries)) (now (a .text)) in
+    sym (name-test t (a .e) ∙ simp (lt-leb (t .nameLength (a .e)) 255 (omega arith), and-false))
 
 name-requires : tie.Need-name-requires
 name-requires c κs = search needs
 
 holds-forbidden-requires : tie.Need-holds-forbidden-requires
 holds-forbidden-requires c κs = λ k.
-    let a = c .before .before .before .before .before .before .before .args in
-    let h = c .before .before .before .before .before .before .before .pre .3 k in
+    let a = c .before .before .before .before .before .before .before .before .args in
     let n = c .name .ensures in
-    (ap (contains 0) n ∙ name-clean 0 (now (a .image)) (a .e) (h .0), ap (contains 47) n ∙ name-clean 47 (now (a .image)) (a .e) (h .1))
+    let h = name-clean (a .c) (now (a .text)) _ _ (sym (c .before .before .before .before .before .before .before .before .pre .2) ∙ k) in
+    (ap (contains 0) n ∙ h .0, ap (contains 47) n ∙ h .1)
 
 returns-4 : tie.Need-returns-4
-returns-4 c = let t = treeOf (now (c .before .before .before .before .before .before .before .before .before .args .image)) in sym (name-test t (c .before .before .before .before .before .before .before .before .before .args .e) ∙ simp (ap forbids (sym (c .before .before .name .ensures)) ∙ sym (c .before .holds-forbidden .ensures) ∙ c .if4 .taken, and-false))
+returns-4 c =
+    let a = c .before .before .before .before .before .before .before .before .before .before .args in
+    let t = entriesTree (a .c) [] (now (a .entries)) (now (a .text)) in
+    let bad = ap forbids (sym (c .before .before .name .ensures)) ∙ sym (c .before .holds-forbidden .ensures) ∙ c .if4 .taken in
+    sym (name-test t (a .e) ∙ simp (bad, and-false))
 
 is-dots-requires : tie.Need-is-dots-requires
 is-dots-requires c κs =
-    let s = now (c .before .before .before .before .before .before .before .before .before .args .image) in
-    let l = name-whole s (c .before .before .before .before .before .before .before .before .before .args .e) (c .before .before .before .before .before .before .before .before .before .pre .0 .sized) (omega arith) in
+    let a = c .before .before .before .before .before .before .before .before .before .before .args in
+    let t = entriesTree (a .c) [] (now (a .entries)) (now (a .text)) in
+    let l = part-whole (now (a .text)) (t .nameOffset (a .e)) (t .nameLength (a .e)) (omega arith) in
     omega (arith, ap length (c .before .before .name .ensures))
 
 returns-5 : tie.Need-returns-5
 returns-5 c =
-    let t = treeOf (now (c .before .before .before .before .before .before .before .before .before .before .args .image)) in
-    let e = c .before .before .before .before .before .before .before .before .before .before .args .e in
+    let a = c .before .before .before .before .before .before .before .before .before .before .before .args in
+    let t = entriesTree (a .c) [] (now (a .entries)) (now (a .text)) in
+    let at = t .nameOffset (a .e) in
+    let l = t .nameLength (a .e) in
+    let good = ap forbids (sym (c .before .before .before .name .ensures)) ∙ sym (c .before .before .holds-forbidden .ensures) ∙ c .before .if4 .left in
     ap not (c .is-dots .ensures ∙ ap dots (c .before .before .before .name .ensures))
-    ∙ sym (name-test t e ∙ rw (le-leb (t .nameOffset e + t .nameLength e) (t .textLength) (omega arith), le-leb 1 (t .nameLength e) (omega arith), le-leb (t .nameLength e) 255 (omega arith), ap forbids (sym (c .before .before .before .name .ensures)) ∙ sym (c .before .before .holds-forbidden .ensures) ∙ c .before .if4 .left))
+    ∙ sym (name-test t (a .e)
+    ∙ rw (le-leb (at + l) (t .textLength) (omega arith), le-leb 1 l (omega arith), le-leb l 255 (omega arith), good))
 
 pub name-holds-spec : {M : Type 1} → statement M
 name-holds-spec =

@@ -25,7 +25,10 @@ forbidden-requires : tie.Need-forbidden-requires Inv-loop μ-loop
 forbidden-requires c κs = tt
 
 returns : tie.Need-returns Inv-loop μ-loop
-returns c = sym (forbids-hit (now (c .before .before .before .before .before .before .args .s)) (c .before .before .before .before .loop .i) (c .before .before .before .before .loop .inv .1) (c .before .before .before .loop-test .taken) (sym (c .before .forbidden .ensures) ∙ c .if1 .taken))
+returns c =
+    let s = now (c .before .before .before .before .before .before .args .s) in
+    let l = c .before .before .before .before .loop in
+    sym (forbids-hit s (l .i) (l .inv .1) (c .before .before .before .loop-test .taken) (sym (c .before .forbidden .ensures) ∙ c .if1 .taken))
 
 add-i : tie.Need-add-i Inv-loop μ-loop
 add-i c = omega arith
@@ -34,7 +37,10 @@ loop-less : tie.Need-loop-less Inv-loop μ-loop
 loop-less c = omega arith
 
 loop-again : tie.Need-loop-again Inv-loop μ-loop
-loop-again c = (omega arith, forbids-miss (now (c .before .before .before .before .before .before .args .s)) (c .before .before .before .before .loop .i) (c .before .before .before .before .loop .inv .1) (c .before .before .before .loop-test .taken) (sym (c .before .forbidden .ensures) ∙ c .if1 .left))
+loop-again c =
+    let s = now (c .before .before .before .before .before .before .args .s) in
+    let l = c .before .before .before .before .loop in
+    (omega arith, forbids-miss s (l .i) (l .inv .1) (c .before .before .before .loop-test .taken) (sym (c .before .forbidden .ensures) ∙ c .if1 .left))
 
 returns-2 : tie.Need-returns-2 Inv-loop μ-loop
 returns-2 c = sym (forbids-none (now (c .before .before .before .args .s)) (c .before .loop .i) (c .before .loop .inv .1) (c .loop-test .left))

@@ -1,13 +1,13 @@
 -- `table_entries::names::text_clean` meets its contract. Assumes nothing.
 use borrow.Author.Needs.{needs}
-use borrow.Author.Tests.{not-true}
-use Prim.Native.Nat.{ℕ}
-use mathlib.Core.Bool.{false≢true}
-use mathlib.Core.Path.{ap, _∙_, sym}
+use Prim.Native.Nat.{_+_, _/_}
+use mathlib.Core.Bool.{not, and-false}
+use mathlib.Core.Path.{sym, ap, _∙_}
 use native.Mathlib.Omega.{arith}
-use lib.ListN.{drop}
+use borrow.Author.Tests.{le-leb, lt-leb}
+use lib.ListN.{length}
 use denote.Ref.{now}
-use Rattle.model.specs.Bytes.{contains}
+use Rattle.table_entries.specs.Texts.{seenClean}
 use Rattle.table_entries.proofs.names.text_clean.Statement.{statement}
 use Rattle.table_entries.proofs.names.text_clean.Tie as tie
 
@@ -15,27 +15,27 @@ add-if1 : tie.Need-add-if1
 add-if1 c = search needs
 
 returns : tie.Need-returns
-returns c = λ e. absurd (false≢true e)
+unfolding seenClean
+returns c =
+    let a = c .before .before .before .args in
+    rw (lt-leb (16 + length (now (a .text)) / 64) (a .c .entries) (omega arith))
 
-text-at-requires : tie.Need-text-at-requires
-text-at-requires c κs = search needs
-
-holds-from-requires : tie.Need-holds-from-requires
-holds-from-requires c κs = omega (arith, c .text-at .ensures .1)
+holds-byte-requires : tie.Need-holds-byte-requires
+holds-byte-requires c κs = search needs
 
 returns-2 : tie.Need-returns-2
-returns-2 c = λ e. absurd (false≢true e)
+unfolding seenClean
+returns-2 c = simp (sym (c .before .holds-byte .ensures) ∙ c .if2 .taken, and-false)
 
-holds-from-requires-2 : tie.Need-holds-from-requires-2
-holds-from-requires-2 c κs = omega (arith, c .before .before .text-at .ensures .1)
+holds-byte-requires-2 : tie.Need-holds-byte-requires-2
+holds-byte-requires-2 c κs = search needs
 
 returns-3 : tie.Need-returns-3
-returns-3 c = λ e.
-    let s = now (c .before .before .before .before .before .before .before .args .image) in
-    let at = sym (c .before .before .before .text-at .ensures .0) in (
-      ap (λ (k : ℕ). contains 0 (drop k s)) at ∙ sym (c .before .before .holds-from .ensures) ∙ c .before .if2 .left,
-      ap (λ (k : ℕ). contains 47 (drop k s)) at ∙ sym (c .holds-from2 .ensures) ∙ not-true _ e,
-    )
+unfolding seenClean
+returns-3 c =
+    let a = c .before .before .before .before .before .before .args in
+    ap not (c .holds-byte2 .ensures)
+    ∙ rw (le-leb (16 + length (now (a .text)) / 64) (a .c .entries) (omega arith), sym (c .before .before .holds-byte .ensures) ∙ c .before .if2 .left)
 
 pub text-clean-spec : {M : Type 1} → statement M
 text-clean-spec =
@@ -43,8 +43,7 @@ text-clean-spec =
     (tie.spec
     add-if1
     returns
-    text-at-requires
-    holds-from-requires
+    holds-byte-requires
     returns-2
-    holds-from-requires-2
+    holds-byte-requires-2
     returns-3)

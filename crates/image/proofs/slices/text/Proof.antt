@@ -1,0 +1,36 @@
+-- `image::slices::text` meets its contract. Assumes nothing.
+use borrow.Author.Needs.{needs}
+use Prim.Native.Nat.{_+_}
+use mathlib.Core.Path.{_≡_, sym}
+use denote.Ref.{now}
+use lib.ListN.{length}
+use Rattle.model.specs.Tree.{sizesOf, textAt, textPart, treeOf}
+use Rattle.theorems.proofs.StringLaws.{part-between}
+use Rattle.image.proofs.slices.text.Statement.{statement}
+use Rattle.image.proofs.slices.text.Tie as tie
+
+text-at-requires : tie.Need-text-at-requires
+text-at-requires c κs = search needs
+
+sub-result : tie.Need-sub-result
+sub-result c = search needs
+
+part-result-start : tie.Need-part-result-start
+part-result-start c = search needs
+
+part-result-end : tie.Need-part-result-end
+part-result-end c = search needs
+
+returns : tie.Need-returns
+unfolding textPart treeOf
+returns c =
+    let text-at = c .before .text-at in
+    let a = c .before .before .before .args in
+    let s = now (a .image) in
+    let at = text-at .ensures in
+    let ends : length s ≡ text-at .result + sizesOf s .text = sym (at .1) in
+    part-between s (textAt (sizesOf s)) (sizesOf s .text) (text-at .result) (length s) (at .0) ends
+
+pub text-spec : {M : Type 1} → statement M
+text-spec =
+    tie.close (tie.spec text-at-requires sub-result part-result-start part-result-end returns)

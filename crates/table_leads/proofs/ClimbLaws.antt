@@ -1,0 +1,127 @@
+-- Laws of the quick way: what is seen to keep its rule keeps it. Assumes nothing.
+use Prim.Native.Nat.{ℕ, zero, suc, _+_, _-_, _≤_, _<_}
+use mathlib.Core.Bool.{Bool, true, false, cond, not}
+use mathlib.Core.Path.{_≡_, refl, sym, ap, _∙_, subst}
+use native.Mathlib.Numerals.{add-one}
+use native.Mathlib.Omega.{arith}
+use borrow.Author.Tests.{eq-eqb, ne-eqb, lt-ltb, le-ltb, eqb-true, eqb-false, ltb-true, ltb-false}
+use lib.Dec.{eqb, ltb}
+use Rattle.model.specs.Bytes.{find}
+use Rattle.model.specs.Tree.{Tree, isDirectory, under}
+use Rattle.theorems.specs.Acceptance.{DirectoriesHold}
+use Rattle.theorems.proofs.Acceptance.{parent-directory}
+use Rattle.theorems.proofs.ByteLaws.{find-on}
+use Rattle.theorems.proofs.UnderLaws.{under-parent, under-self}
+use Rattle.table_leads.specs.Climbs.{climbed, stepsAfter, unseenFrom}
+use Rattle.table_leads.specs.Leads.{leadBy, keeps, foundOr, brokenFrom}
+use Rattle.table_leads.specs.declared.Lead.{Lead}
+use Rattle.table_leads.specs.declared.Lead.the-variants.{Settled, Into, Dangling}
+use Rattle.table_leads.proofs.FoundLaws.{found-done}
+use Rattle.table_leads.proofs.LeadLaws.{into-facts}
+
+-- a step of a climb, and its ends
+module _ (parent : ℕ → ℕ) (n r : ℕ) where
+  pub climbs-on : (left : ℕ) → r < n → climbed parent (suc left) n r ≡ climbed parent left (parent n) r
+  unfolding climbed
+  climbs-on left h = rw (lt-ltb r n h)
+
+  pub climb-spent : (left : ℕ) → left ≡ 0 → climbed parent left n r ≡ 0
+  unfolding climbed
+  climb-spent zero e = refl
+  climb-spent (suc left) e = absurd (omega arith)
+
+  pub climb-met : (left : ℕ) → n ≡ r → climbed parent left n r ≡ left
+  unfolding climbed
+  climb-met zero e = refl
+  climb-met (suc left) e = rw (le-ltb r n (omega arith), eq-eqb n r e)
+
+  pub climb-missed : (left : ℕ) → n ≤ r → (n ≡ r → ⊥) → climbed parent left n r ≡ 0
+  unfolding climbed
+  climb-missed zero h e = refl
+  climb-missed (suc left) h e = rw (le-ltb r n h, ne-eqb n r e)
+
+module _ (t : Tree) (directories : DirectoriesHold t) where
+  -- a root that is met in time is met
+  climbed-under : (steps n r : ℕ) → isDirectory t n ≡ true → (climbed (t .parent) steps n r ≡ 0 → ⊥) → under t n r ≡ true
+  unfolding climbed
+  climbed-under zero n r d h = absurd (h refl)
+  climbed-under (suc steps) n r d h =
+      by (ltb r n) refl (eqb n r) refl (climbed-under steps (t .parent n) r (parent-directory t directories n d))
+    where
+      by : (a : Bool) → ltb r n ≡ a → (b : Bool) → eqb n r ≡ b → ((climbed (t .parent) steps (t .parent n) r ≡ 0 → ⊥) → under t (t .parent n) r ≡ true)
+          → under t n r ≡ true
+      by a e true f up = under-self t directories r n d (eqb-true n r f)
+      by true e false f up = under-parent t directories r n d ∙ rw f (up (λ z. h (climbs-on (t .parent) n r steps (ltb-true r n e) ∙ z)))
+      by false e false f up = absurd (h (climb-missed (t .parent) n r (suc steps) (ltb-false r n e) (eqb-false n r f)))
+
+  -- what is seen to keep its rule keeps it
+  pub seen-keeps : (links : Bool) (k steps : ℕ) → k < cond links (t .nodes) (t .mounts) → (stepsAfter t (leadBy links t k) steps ≡ 0 → ⊥)
+      → keeps t (leadBy links t k) ≡ true
+  unfolding stepsAfter
+  seen-keeps links k steps below h = by (leadBy links t k) refl h
+    where
+      by : (l : Lead) → leadBy links t k ≡ l → (stepsAfter t l steps ≡ 0 → ⊥) → keeps t l ≡ true
+      by Settled e h = refl
+      by (Into mount node) e h = climbed-under steps node (t .mountRoot mount) (into-facts t links k mount node below e .1) h
+      by Dangling e h = absurd (h refl)
+
+-- the turns of the loop over records
+module _ (links : Bool) (t : Tree) (k end steps : ℕ) where
+  unseen-step : k < end → unseenFrom links t k (end - k) steps
+      ≡ cond (eqb (stepsAfter t (leadBy links t k) steps) 0) k (unseenFrom links t (k + 1) (end - (k + 1)) (stepsAfter t (leadBy links t k) steps))
+  unfolding unseenFrom
+  unseen-step h = let e : end - k ≡ suc (end - (k + 1)) = omega arith in rw (e, add-one k)
+
+  pub unseen-here : k < end → stepsAfter t (leadBy links t k) steps ≡ 0 → unseenFrom links t k (end - k) steps ≡ k
+  unseen-here h e = unseen-step h ∙ rw (eq-eqb (stepsAfter t (leadBy links t k) steps) 0 e)
+
+  pub unseen-on : k < end → (stepsAfter t (leadBy links t k) steps ≡ 0 → ⊥)
+      → unseenFrom links t k (end - k) steps ≡ unseenFrom links t (k + 1) (end - (k + 1)) (stepsAfter t (leadBy links t k) steps)
+  unseen-on h e = unseen-step h ∙ rw (ne-eqb (stepsAfter t (leadBy links t k) steps) 0 e)
+
+  pub unseen-done : end ≤ k → unseenFrom links t k (end - k) steps ≡ k
+  unfolding unseenFrom
+  unseen-done h = let e : end - k ≡ 0 = omega arith in rw e
+
+-- no record from the end on is asked
+pub broken-done : (links : Bool) (t : Tree) (at end : ℕ) → end ≤ at → brokenFrom links t at end ≡ end
+unfolding brokenFrom
+broken-done links t at end h = found-done (λ k. not (keeps t (leadBy links t k))) at end h
+
+-- Where the quick way stops: among the records, and at or before the lowest that breaks its rule.
+pub record Stops (links : Bool) (t : Tree) (end from at : ℕ) : Type 0 where
+  pub from-on : from ≤ at
+  pub to-end : at ≤ end
+  pub broken : find (λ k. not (keeps t (leadBy links t k))) from (end - from) ≡ find (λ k. not (keeps t (leadBy links t k))) at (end - at)
+
+module _ (links : Bool) (t : Tree) (directories : DirectoriesHold t) (end : ℕ) (inside : end ≤ cond links (t .nodes) (t .mounts)) where
+  stops : (count k steps : ℕ) → k + count ≡ end → Stops links t end k (unseenFrom links t k (end - k) steps)
+  stops zero k steps h =
+      subst (Stops links t end k) (sym (unseen-done links t k end steps (omega arith))) (record { from-on = omega arith; to-end = omega arith; broken = refl })
+  stops (suc count) k steps h =
+      let left = stepsAfter t (leadBy links t k) steps in
+      by (eqb left 0) refl (stops count (k + 1) left (omega arith))
+    where
+      by : (b : Bool) → eqb (stepsAfter t (leadBy links t k) steps) 0 ≡ b
+          → Stops links t end (k + 1) (unseenFrom links t (k + 1) (end - (k + 1)) (stepsAfter t (leadBy links t k) steps))
+          → Stops links t end k (unseenFrom links t k (end - k) steps)
+      by true e later =
+          subst (Stops links t end k) (sym (unseen-here links t k end steps (omega arith) (eqb-true _ 0 e)))
+          (record { from-on = omega arith; to-end = omega arith; broken = refl })
+      by false e later =
+          let some = eqb-false (stepsAfter t (leadBy links t k) steps) 0 e in
+          let kept = seen-keeps t directories links k steps (omega arith) some in
+          subst (Stops links t end k) (sym (unseen-on links t k end steps (omega arith) some))
+          (record {
+            from-on = omega (arith, later .from-on);
+            to-end = later .to-end;
+            broken = find-on (λ i. not (keeps t (leadBy links t i))) k end (omega arith) (ap not kept) ∙ later .broken;
+          })
+
+  pub unseen-stops : (from steps : ℕ) → from ≤ end → Stops links t end from (unseenFrom links t from (end - from) steps)
+  unseen-stops from steps h = stops (end - from) from steps (omega arith)
+
+  -- so the exact way may begin there
+  pub broken-unseen : (from steps : ℕ) → from ≤ end → brokenFrom links t (unseenFrom links t from (end - from) steps) end ≡ brokenFrom links t from end
+  unfolding brokenFrom
+  broken-unseen from steps h = ap (foundOr end) (sym (unseen-stops from steps h .broken))

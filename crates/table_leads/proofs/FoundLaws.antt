@@ -1,0 +1,53 @@
+-- Laws of a search that gives its end where it finds nothing. Assumes nothing.
+use Prim.Native.Nat.{ℕ, _+_, _-_, _≤_, _<_}
+use mathlib.Core.Bool.{Bool, true, false}
+use mathlib.Core.Option.{Option, none, some}
+use mathlib.Core.Path.{_≡_, refl, sym, ap, _∙_, subst}
+use native.Mathlib.Omega.{arith}
+use Rattle.model.specs.Bytes.{find}
+use Rattle.theorems.proofs.ByteLaws.{find-none, find-some, find-here, find-on, find-done}
+use Rattle.table_leads.specs.Leads.{foundOr}
+
+-- one number at a time
+module _ (p : ℕ → Bool) (at end : ℕ) where
+  pub found-here : at < end → p at ≡ true → foundOr end (find p at (end - at)) ≡ at
+  found-here h e = ap (foundOr end) (find-here p at end h e)
+
+  pub found-on : at < end → p at ≡ false → foundOr end (find p at (end - at)) ≡ foundOr end (find p (at + 1) (end - (at + 1)))
+  found-on h e = ap (foundOr end) (find-on p at end h e)
+
+  pub found-done : end ≤ at → foundOr end (find p at (end - at)) ≡ end
+  found-done h = ap (foundOr end) (find-done p at end h)
+
+-- what is found: the lowest number that passes, or the end where none does
+pub record Found (p : ℕ → Bool) (at end k : ℕ) : Type 0 where
+  pub from : at ≤ k
+  pub below : k ≤ end
+  pub passes : k < end → p k ≡ true
+  pub lowest : (i : ℕ) → at ≤ i → i < k → p i ≡ false
+
+pub found : (p : ℕ → Bool) (at end : ℕ) → at ≤ end → Found p at end (foundOr end (find p at (end - at)))
+found p at end h = by (find p at (end - at)) refl
+  where
+    by : (o : Option ℕ) → find p at (end - at) ≡ o → Found p at end (foundOr end o)
+    by none e = record {
+      from = h;
+      below = omega arith;
+      passes = λ l. absurd (omega arith);
+      lowest = λ i l u. find-none p at (end - at) e i l (omega arith);
+    }
+    by (some k) e =
+        let l = find-some p at (end - at) k e in
+        record { from = l .from; below = omega (arith, l .below); passes = λ u. l .passes; lowest = l .lowest }
+
+-- back to the search
+pub found-some : (end k : ℕ) (o : Option ℕ) → foundOr end o ≡ k → k < end → o ≡ some k
+found-some end k none e h = absurd (omega (arith, e))
+found-some end k (some i) e h = ap some e
+
+pub found-none : (p : ℕ → Bool) (count : ℕ) → count ≤ foundOr count (find p 0 count) → find p 0 count ≡ none
+found-none p count h = by (find p 0 count) refl h
+  where
+    by : (o : Option ℕ) → find p 0 count ≡ o → count ≤ foundOr count o → o ≡ none
+    by none e h = refl
+    by (some k) e h = absurd (omega (arith, find-some p 0 count k e .below))

@@ -1,0 +1,83 @@
+-- `table_leads::mount_lead` meets its contract: each return is a case of the rule, by what was read. Assumes nothing.
+use mathlib.Core.Path.{sym, ap, _∙_}
+use native.Mathlib.Omega.{arith}
+use borrow.Author.Tests.{not-true, not-false}
+use denote.Ref.{now}
+use Rattle.model.specs.Tree.{isDirectory}
+use Rattle.parts.specs.Parts.{mountsTree}
+use Rattle.table_leads.specs.Leads.{hangsLead}
+use Rattle.table_leads.proofs.LeadLaws.{root-other, zero-set, lead-zeroth, lead-point}
+use Rattle.table_leads.proofs.mount_lead.Statement.{statement}
+use Rattle.table_leads.proofs.mount_lead.Tie as tie
+
+mount-root-requires : tie.Need-mount-root-requires
+mount-root-requires c κs = omega (arith, c .before .before .pre .1 .whole)
+
+is-directory-requires : tie.Need-is-directory-requires
+is-directory-requires c κs = c .before .before .before .pre .0
+
+returns : tie.Need-returns
+unfolding isDirectory
+returns c =
+    let a = c .before .before .before .before .before .args in
+    let mount-root = c .before .before .mount-root in
+    let is-directory = c .before .is-directory in
+    let t = mountsTree (a .c) (now (a .nodes)) (now (a .mounts)) in
+    root-other t (a .m) (ap (isDirectory t) (sym (mount-root .ensures .0)) ∙ sym (is-directory .ensures) ∙ not-true _ (c .if1 .taken))
+
+mount-zero-requires : tie.Need-mount-zero-requires
+mount-zero-requires c κs = omega (arith, c .before .before .before .before .before .pre .1 .whole)
+
+returns-2 : tie.Need-returns-2
+returns-2 c =
+    let a = c .before .before .before .before .before .before .before .args in
+    let t = mountsTree (a .c) (now (a .nodes)) (now (a .mounts)) in
+    zero-set t (a .m) (λ e. c .if2 .taken (c .before .mount-zero .ensures .0 ∙ e))
+
+mount-0-lead-requires : tie.Need-mount-0-lead-requires
+mount-0-lead-requires c κs = c .before .before .before .before .before .before .before .before .pre .1
+
+returns-3 : tie.Need-returns-3
+unfolding isDirectory hangsLead
+returns-3 c =
+    let a = c .before .before .before .before .before .before .before .before .before .args in
+    let mount-root = c .before .before .before .before .before .before .mount-root in
+    let is-directory = c .before .before .before .before .before .is-directory in
+    let if1 = c .before .before .before .before .if1 in
+    let mount-zero = c .before .before .before .mount-zero in
+    let if2 = c .before .before .if2 in
+    let if3 = c .before .if3 in
+    let t = mountsTree (a .c) (now (a .nodes)) (now (a .mounts)) in
+    let d = ap (isDirectory t) (sym (mount-root .ensures .0)) ∙ sym (is-directory .ensures) ∙ not-false _ (if1 .left) in
+    c .mount-0-lead .ensures ∙ lead-zeroth t (a .m) d (sym (mount-zero .ensures .0) ∙ if2 .left) (if3 .taken)
+
+point-lead-requires : tie.Need-point-lead-requires
+point-lead-requires c κs = c .before .before .before .before .before .before .before .before .pre
+
+returns-4 : tie.Need-returns-4
+unfolding isDirectory
+returns-4 c =
+    let a = c .before .before .before .before .before .before .before .before .before .args in
+    let mount-root = c .before .before .before .before .before .before .mount-root in
+    let is-directory = c .before .before .before .before .before .is-directory in
+    let if1 = c .before .before .before .before .if1 in
+    let mount-zero = c .before .before .before .mount-zero in
+    let if2 = c .before .before .if2 in
+    let if3 = c .before .if3 in
+    let t = mountsTree (a .c) (now (a .nodes)) (now (a .mounts)) in
+    let d = ap (isDirectory t) (sym (mount-root .ensures .0)) ∙ sym (is-directory .ensures) ∙ not-false _ (if1 .left) in
+    c .point-lead .ensures ∙ lead-point t (a .m) d (sym (mount-zero .ensures .0) ∙ if2 .left) (if3 .left)
+
+pub mount-lead-spec : {M : Type 1} → statement M
+mount-lead-spec =
+    tie.close
+    (tie.spec
+    mount-root-requires
+    is-directory-requires
+    returns
+    mount-zero-requires
+    returns-2
+    mount-0-lead-requires
+    returns-3
+    point-lead-requires
+    returns-4)

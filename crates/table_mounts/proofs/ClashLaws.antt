@@ -1,0 +1,70 @@
+-- Laws of points that mounts share, and of the bytes that tell which are taken. Assumes nothing.
+use Prim.Native.Nat.{ℕ, _+_, _-_, _*_, _%_, _≤_, _<_}
+use mathlib.Core.Bool.{Bool, true, false, _&&_}
+use mathlib.Core.List.{List}
+use mathlib.Core.Path.{_≡_, refl, sym, ap, ap₂, _∙_}
+use native.Mathlib.Omega.{arith}
+use borrow.Author.Count.{below-more}
+use borrow.Author.Tests.{eqb-true, eqb-false}
+use lib.Dec.{eqb}
+use lib.ListN.{length, getD, set, length-set}
+use lib.Seq.{getD-set-same, getD-set-other}
+use Rattle.model.specs.Bytes.{isSome}
+use Rattle.model.specs.Tree.{mountParentIn, mountPointIn}
+use Rattle.model.specs.TableCheck.{sharesPoint}
+use Rattle.theorems.proofs.ByteLaws.{find-absent}
+use Rattle.table_mounts.specs.Clashes.{uncounted, slotOf, Noted}
+
+-- before any other mount
+pub noted-none : (mounts points : List ℕ) → 1024 ≤ length points → Noted mounts 1 points
+noted-none mounts points h = record { room = h; is-noted = λ k l u. absurd (omega arith) }
+
+-- writing 1 leaves no 0 where there was none
+set-keeps : (s : List ℕ) (i j : ℕ) → i < length s → (getD s j 0 ≡ 0 → ⊥) → getD (set s i 1) j 0 ≡ 0 → ⊥
+set-keeps s i j h not-zero = by (eqb j i) refl
+  where
+    by : (b : Bool) → eqb j i ≡ b → getD (set s i 1) j 0 ≡ 0 → ⊥
+    by true f e = omega (arith, sym (getD-set-same s i 1 0 h) ∙ ap (λ (k : ℕ). getD (set s i 1) k 0) (sym (eqb-true j i f)) ∙ e)
+    by false f e = not-zero (sym (getD-set-other s i j 1 0 (eqb-false j i f)) ∙ e)
+
+-- mounts that share parent and point share the byte
+same-slot : (s : List ℕ) (k m : ℕ) → mountParentIn s k ≡ mountParentIn s m → mountPointIn s k ≡ mountPointIn s m → slotOf s k ≡ slotOf s m
+unfolding slotOf
+same-slot s k m parents points = ap₂ (λ (p : ℕ) (n : ℕ). (n + 4 * p) % 1024) parents points
+
+-- `at` is the byte of mount m, and those of the mounts before it are noted
+module _ (s : List ℕ) (m : ℕ) (points : List ℕ) (notes : Noted s m points) (at : ℕ) (is : (at ≡ slotOf s m) × (at < 1024)) where
+  -- a point whose byte is 0 is no earlier mount's
+  pub alone : getD points at 0 ≡ 0 → sharesPoint (uncounted s) m ≡ false
+  unfolding sharesPoint
+  alone e =
+      ap isSome (find-absent _ 1 (m - 1)
+      (λ k low high. by k low (omega arith) (eqb (mountParentIn s k) (mountParentIn s m)) refl (eqb (mountPointIn s k) (mountPointIn s m)) refl))
+    where
+      by : (k : ℕ) → 1 ≤ k → k < m → (a : Bool) → eqb (mountParentIn s k) (mountParentIn s m) ≡ a
+          → (b : Bool) → eqb (mountPointIn s k) (mountPointIn s m) ≡ b → (a && b) ≡ false
+      by k low l false f b g = refl
+      by k low l true f false g = refl
+      by k low l true f true g =
+          let same : slotOf s k ≡ at = same-slot s k m (eqb-true _ _ f) (eqb-true _ _ g) ∙ sym (is .0) in
+          absurd (notes .is-noted k low l (ap (λ (n : ℕ). getD points n 0) same ∙ e))
+
+  -- one mount more, its byte set
+  pub noted-set : Noted s (m + 1) (set points at 1)
+  noted-set = record { room = rw (length-set points at 1) (notes .room); is-noted = λ k low l. all k l low }
+    where
+      inside : at < length points
+      inside = omega (arith, is .1, notes .room)
+
+      here : 1 ≤ m → getD (set points at 1) (slotOf s m) 0 ≡ 0 → ⊥
+      here low e = omega (arith, sym (getD-set-same points at 1 0 inside) ∙ ap (λ (n : ℕ). getD (set points at 1) n 0) (is .0) ∙ e)
+
+      all : (k : ℕ) → k < m + 1 → 1 ≤ k → getD (set points at 1) (slotOf s k) 0 ≡ 0 → ⊥
+      all = below-more _ m (λ k l low. set-keeps points at (slotOf s k) inside (notes .is-noted k low l)) here
+
+  -- or set already
+  pub noted-on : (getD points at 0 ≡ 0 → ⊥) → Noted s (m + 1) points
+  noted-on h = record { room = notes .room; is-noted = λ k low l. all k l low }
+    where
+      all : (k : ℕ) → k < m + 1 → 1 ≤ k → getD points (slotOf s k) 0 ≡ 0 → ⊥
+      all = below-more _ m (λ k l low. notes .is-noted k low l) (λ low e. h (ap (λ (n : ℕ). getD points n 0) (is .0) ∙ e))

@@ -1,0 +1,43 @@
+-- Laws of the search for a record that breaks its rule, one record at a time, and of what the bits say of a lead. Assumes nothing.
+use Prim.Native.Nat.{ℕ, _+_, _≤_, _<_}
+use mathlib.Core.Bool.{Bool, true, false, cond, not}
+use mathlib.Core.Path.{_≡_, sym, ap}
+use borrow.Author.Tests.{ltb-true}
+use lib.Dec.{eqb, ltb}
+use Rattle.model.specs.Tree.{Tree, isDirectory}
+use Rattle.theorems.proofs.ByteLaws.{find-here, find-on, find-done}
+use Rattle.theorems.proofs.Cases.{both}
+use Rattle.table_leads.specs.Leads.{leadBy, keeps, foundOr, brokenFrom}
+use Rattle.table_leads.specs.declared.Lead.the-variants.{Into}
+use Rattle.table_leads.proofs.LeadLaws.{into-facts}
+use Rattle.table_under.specs.Rows.{Chart, Charted, within}
+
+module _ (links : Bool) (t : Tree) (k end : ℕ) where
+  abbrev broken : ℕ → Bool
+  broken i = not (keeps t (leadBy links t i))
+
+  pub broken-here : k < end → broken k ≡ true → brokenFrom links t k end ≡ k
+  unfolding brokenFrom
+  broken-here h e = ap (foundOr end) (find-here broken k end h e)
+
+  pub broken-on : k < end → broken k ≡ false → brokenFrom links t k end ≡ brokenFrom links t (k + 1) end
+  unfolding brokenFrom
+  broken-on h e = ap (foundOr end) (find-on broken k end h e)
+
+  pub broken-done : end ≤ k → brokenFrom links t k end ≡ end
+  unfolding brokenFrom
+  broken-done h = ap (foundOr end) (find-done broken k end h)
+
+-- what a lead is into, and what the bits say of it
+pub record Led (t : Tree) (s : Chart) (mount node : ℕ) : Type 0 where
+  pub mount-below : mount < t .mounts
+  pub node-below : node < t .nodes
+  pub bits : within (t .nodes) s node (t .mountRoot mount) ≡ keeps t (Into mount node)
+
+pub led : (t : Tree) (s : Chart) (links : Bool) (k : ℕ) {mount node : ℕ} → Charted t (t .nodes) s
+    → k < cond links (t .nodes) (t .mounts) → leadBy links t k ≡ Into mount node → Led t s mount node
+unfolding isDirectory
+led t s links k {mount} {node} charted h e =
+    let into = into-facts t links k mount node h e in
+    let below : node < t .nodes = ltb-true node (t .nodes) (both (ltb node (t .nodes)) (eqb (t .kind node) 1) (into .1) .0) in
+    record { mount-below = into .0; node-below = below; bits = sym (charted .told node mount below (into .1) (into .0)) }

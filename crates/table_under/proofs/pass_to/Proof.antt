@@ -1,0 +1,97 @@
+-- `table_under::pass_to` meets its contract. Assumes nothing.
+use native.Mathlib.Omega.{arith}
+use mathlib.Core.Path.{_∙_}
+use denote.Ref.{now}
+use Rattle.model.specs.Tree.{parentIn}
+use Rattle.table_under.specs.Rows.{chart}
+use Rattle.table_under.proofs.NearLaws.{pass-on, pass-root, above-room, own-room}
+use borrow.Author.Needs.{needs}
+use Rattle.table_under.proofs.pass_to.Statement.{statement}
+use Rattle.table_under.proofs.pass_to.Tie as tie
+
+row-above-requires : tie.Need-row-above-requires
+row-above-requires c κs = search needs
+
+mul-wide : tie.Need-mul-wide
+mul-wide c = search needs
+
+slice-read-wide : tie.Need-slice-read-wide
+slice-read-wide c = search needs
+
+wide-requires : tie.Need-wide-requires
+wide-requires c κs = search needs
+
+mul-near : tie.Need-mul-near
+mul-near c = search needs
+
+slice-write-near : tie.Need-slice-write-near
+slice-write-near c = search needs
+
+same-length : tie.Need-same-length
+same-length c = search needs
+
+returns : tie.Need-returns
+returns c = pass-on _ _ _ _ (c .before .before .before .row-above .ensures) (c .before .wide .ensures .0) (omega arith)
+
+wide-requires-2 : tie.Need-wide-requires-2
+wide-requires-2 c κs = search needs
+
+copy-row-requires : tie.Need-copy-row-requires
+copy-row-requires c κs =
+    let a = c .before .before .before .before .before .before .before .before .before .before .args in
+    let s = chart (now (a .near)) (now (a .rows)) in
+    let parent = parentIn (now (a .nodes)) in
+    let fitting = c .before .before .before .before .before .before .before .before .before .before .pre .2 in
+    let row-above = c .before .before .before .before .before .row-above in
+    let wide = c .before .before .before .wide in (
+      omega (arith, above-room parent (a .n) s fitting, row-above .ensures, c .wide2 .ensures .0),
+      omega (arith, own-room (a .n) s fitting, wide .ensures .0),
+    )
+
+sub-set-bit : tie.Need-sub-set-bit
+sub-set-bit c = search needs
+
+set-bit-requires : tie.Need-set-bit-requires
+set-bit-requires c κs =
+    let a = c .before .before .before .before .before .before .before .before .before .before .before .before .before .before .args in
+    let s = chart (now (a .near)) (now (a .rows)) in
+    let fitting = c .before .before .before .before .before .before .before .before .before .before .before .before .before .before .pre .2 in
+    let wide = c .before .before .before .before .before .before .before .wide in (
+      omega (arith, own-room (a .n) s fitting, wide .ensures .0, c .before .before .before .copy-row .kept .0),
+      omega (arith, fitting .few (a .n), wide .ensures .0),
+    )
+
+same-length-2 : tie.Need-same-length-2
+same-length-2 c = search needs
+
+same-length-3 : tie.Need-same-length-3
+same-length-3 c = search needs
+
+returns-2 : tie.Need-returns-2
+returns-2 c =
+    let row-above = c .before .before .before .before .before .before .before .before .before .before .before .before .row-above in
+    let wide = c .before .before .before .before .before .before .before .before .before .before .wide in
+    let above = c .before .before .before .before .before .before .before .wide2 in
+    let copy-row = c .before .before .before .before .before .before .copy-row in
+    let if1 = c .before .before .before .before .before .before .before .before .before .if1 in
+    pass-root _ _ _ _ (above .ensures .0 ∙ row-above .ensures) (wide .ensures .0) (if1 .left) (copy-row .ensures) (c .before .before .set-bit .ensures)
+
+pub pass-to-spec : {M : Type 1} → statement M
+pass-to-spec =
+    tie.close
+    (tie.spec
+    row-above-requires
+    mul-wide
+    slice-read-wide
+    wide-requires
+    mul-near
+    slice-write-near
+    same-length
+    returns
+    wide-requires-2
+    copy-row-requires
+    sub-set-bit
+    set-bit-requires
+    same-length-2
+    same-length-3
+    returns-2)
