@@ -21,6 +21,21 @@ pub const CASES: &[Case] = &[
         build: || accepted(bodies_and_names()),
     },
     Case {
+        name: "hostile-bodies-zero",
+        about: "as hostile-bodies, and a zero byte that is in no body",
+        build: || accepted(bodies_and_zero()),
+    },
+    Case {
+        name: "hostile-bodies-zeros",
+        about: "4,095 symbolic links with bodies of 300 bytes over shared text, between zero bytes",
+        build: || accepted(bodies_between_zeros()),
+    },
+    Case {
+        name: "hostile-names-slash",
+        about: "as hostile-names, and a slash that is in no name",
+        build: || accepted(names_and_slash()),
+    },
+    Case {
         name: "hostile-points",
         about: "255 mount points at the end of a chain of 4,096 directories",
         build: || accepted(points()),
@@ -81,6 +96,36 @@ fn names() -> Tree {
         .collect();
     for i in 0..4_096 {
         tree.name_as(directories[i / names.len()], names[i % names.len()], file);
+    }
+    tree
+}
+
+fn names_and_slash() -> Tree {
+    let mut tree = names();
+    tree.text(b"/");
+    tree
+}
+
+fn bodies_and_zero() -> Tree {
+    let (mut tree, _) = Tree::mounted();
+    let all = tree.text(&letters(16_355));
+    tree.text(&[0]);
+    links(&mut tree, all);
+    tree
+}
+
+/// Each body begins at the first byte after a zero byte, or some bytes further.
+fn bodies_between_zeros() -> Tree {
+    let (mut tree, _) = Tree::mounted();
+    let parts: Vec<Text> = (0..50)
+        .map(|_| {
+            let part = tree.text(&letters(326));
+            tree.text(&[0]);
+            part
+        })
+        .collect();
+    for i in 0..4_095 {
+        tree.symlink(parts[i % parts.len()].part(i % 27, 300));
     }
     tree
 }

@@ -62,6 +62,33 @@ def of_deep_links(last):
     return t.image()
 
 
+def of_shared_bodies(last=(301, 200), zero=300):
+    """A top, and as nodes 1 to 40 symbolic links whose bodies are 200 bytes of one text: by turns from its bytes 0 and 301 on, or some
+    bytes further, the last as told. The text is 601 letters, but for a zero byte between."""
+    t = Tree()
+    t.top()
+    text = bytearray(b"s" * 601)
+    text[zero] = 0
+    t.put(bytes(text))
+    for i in range(39):
+        t._node(SYMLINK, 0, (0, 301)[i % 2] + i, 200)
+    t._node(SYMLINK, 0, *last)
+    return t.mount(0).image()
+
+
+def of_shared_names(byte, last=(0, 100)):
+    """A top and a file with 100 names, entries 0 to 99: the first 1, 2 and so on to 100 bytes of one text, but for the last, which is as
+    told. The text is 100 letters and a byte."""
+    t = Tree()
+    t.top()
+    f = t.file()
+    t.put(b"n" * 100 + bytes([byte]))
+    for length in range(1, 100):
+        t.names.setdefault(0, {})[b"n" * length] = (0, f)
+    t.names[0][b"n" * 100] = (0, f)
+    return entry(t.mount(0).image(), 99, offset=last[0], length=last[1])
+
+
 def of_entries(number_of_entries):
     """32 directories of 128 names each, one byte long, for one file: nodes 0 to 31, and 32. The first entries beyond 4,096 go to
     the last directory."""
@@ -277,6 +304,15 @@ check("rule-4-body-4095", of_body(4095), ACCEPTED, "a body of 4,095 bytes")
 check("rule-4-body-4096", of_body(4096), broken(4, 1), "a body of 4,096 bytes")
 check("rule-4-body-zero-first-byte", in_text(first_node(SYMLINK), 0, 0), broken(4, 0), "node 0: a zero byte first in the body")
 check("rule-4-body-zero-last-byte", in_text(last_node(SYMLINK), 4, 0), broken(4, 4), "node 4: a zero byte last in the body")
+check("rule-4-shared", of_shared_bodies(), ACCEPTED, "40 bodies of 200 bytes of one text, none over the zero byte in it")
+check("rule-4-shared-zero-at-end", of_shared_bodies((101, 200)), broken(4, 40), "the same, the last to the zero byte, which is its last")
+check("rule-4-shared-before-zero", of_shared_bodies((100, 200)), ACCEPTED, "the same, the last to the byte before it")
+check("rule-4-shared-zero-first", of_shared_bodies((300, 200)), broken(4, 40), "the same, the last from it on")
+check("rule-4-shared-zero-within", of_shared_bodies((200, 200)), broken(4, 40), "the same, the last over it")
+check("rule-4-shared-short", of_shared_bodies((290, 10)), ACCEPTED, "the same, the last the ten bytes before it")
+check("rule-4-shared-short-zero", of_shared_bodies((295, 10)), broken(4, 40), "the same, the last ten bytes over it")
+check("rule-4-shared-beyond", of_shared_bodies((402, 200)), broken(4, 40), "the same, the last one byte beyond the text")
+check("rule-4-shared-first", of_shared_bodies((200, 200), 39), broken(4, 1), "the zero byte at 39: in nodes 1 and 3 and so on, and the last over none")
 check("rule-4-body-zero-of-4095", in_text(of_body(4095), 4094, 0), broken(4, 1), "a zero byte last in a body of 4,095")
 
 # ---------------------------------------------------------------------------------------------------------------------------------
@@ -331,6 +367,12 @@ check("rule-5-other-parent-last", entry(LISTED, 3, node=1), broken(5, 3), "entry
 check("rule-5-right-parent-last", entry(LISTED, 3, node=3), ACCEPTED, "entry 3: the directory of node 1")
 check("rule-5-top-first", entry(LISTED, 0, node=0), broken(5, 0), "entry 0: the top, in itself")
 check("rule-5-top-last", entry(entry(node(LISTED, 1, parent=1), 1, node=2), 3, node=1), broken(5, 3), "entry 3: node 1, a top, in itself")
+
+check("rule-5-shared", of_shared_names(47), ACCEPTED, "100 names of one text, none over the slash at its end")
+check("rule-5-shared-slash", of_shared_names(47, (1, 100)), broken(5, 99), "the same, the last over it")
+check("rule-5-shared-zero", of_shared_names(0, (1, 100)), broken(5, 99), "the same with a zero byte for the slash")
+check("rule-5-shared-slash-alone", of_shared_names(47, (100, 1)), broken(5, 99), "the same, the last the slash alone")
+check("rule-5-shared-letter", of_shared_names(111, (1, 100)), ACCEPTED, "the same with a letter for the slash")
 
 # ---------------------------------------------------------------------------------------------------------------------------------
 group("The table check, rule 6", "Four mounts; mounts 1 and 2 hang in mount 0, mount 3 in mount 1.")

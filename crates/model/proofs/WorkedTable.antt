@@ -5,14 +5,18 @@ use mathlib.Core.List.{map}
 use mathlib.Core.Path.{_≡_, refl}
 use Rattle.model.specs.Bytes.{field, fieldBytes, part, has, contains, sameBytes, before, find, firstFailing, ascii}
 use Rattle.model.specs.Tree.{sizesOf, nodesPart, mountsPart, entriesPart, textPart, treeOf, isDirectory, isLink, holds, lookup, meetsWithin, under, mountOn, covered}
-use Rattle.model.specs.TableCheck.{rule1, rule2, countsFit, wholeLength, rule3, directoryCount, sumBelow, countsBefore, directoryHolds, fileHolds, symlinkHolds, magicHolds, nodeHolds, rule4, nameHolds, follows, ascends, standsInParent, entryHolds, rule5, pointHolds, sharesPoint, hangs, mountHolds, rule6, targetHolds, magicTargetHolds, rule7, recordsCheck, tableCheck}
+use Rattle.model.specs.TableCheck.{rule1, rule2, countsFit, wholeLength, rule3, directoryCount, sumBelow, countsBefore, directoryHolds, fileHolds, symlinkHolds, magicHolds}
+use Rattle.model.specs.TableCheck.{nodeHolds, rule4, nameHolds, follows, ascends, standsInParent, entryHolds, rule5, pointHolds, sharesPoint, hangs, mountHolds, rule6, targetHolds}
+use Rattle.model.specs.TableCheck.{magicTargetHolds, rule7, recordsCheck, tableCheck}
 use Rattle.model.specs.OpenHow.{flagsOf, modeOf, paddingOf, resolveOf, unknownBit, tailSet, bothScopes, modeSet, howRefused}
 use Rattle.model.specs.Path.{upToSlash, componentsFrom, components, absolute, endsInSlash, pathRefused}
 use Rattle.model.specs.Handles.{handleRefused}
 use Rattle.model.specs.Trace.{meets, row, firstSet, forbids, answer, stoodOn}
-use Rattle.model.specs.Walk.{samePlace, rootOf, pointOf, enter, toParent, climb, atTop, goUp, magicLink, symbolicLink, followLink, stepTo, byName, oneComponent, finish, transition, walkPending, walk, beginAt, walkPath}
+use Rattle.model.specs.Walk.{samePlace, rootOf, pointOf, enter, toParent, climb, atTop, goUp, magicLink, symbolicLink, followLink, stepTo, byName, oneComponent, finish, transition}
+use Rattle.model.specs.Walk.{walkPending, walk, beginAt, walkPath}
 use Rattle.model.specs.Resolve.{refusedBefore, restrictions, requestOf, traceOf, resolve, placesOf}
-use Rattle.model.specs.BenchTree.{digit, hexBytes, hex, smallest, benchNodes, benchMounts, benchEntries, bench, openHow, Case, workedTable, bind, magicLoop, magicPath, ownTable, run, stoodTable, stood}
+use Rattle.model.specs.BenchTree.{digit, hexBytes, hex, smallest, benchNodes, benchMounts, benchEntries, bench, openHow, Case, workedTable, bind, magicLoop, magicPath, ownTable, run}
+use Rattle.model.specs.BenchTree.{stoodTable, stood}
 use Rattle.model.specs.declared.Verdict.the-variants.{Accepted}
 
 -- P1 to P12 and the unnumbered rows are one equation, and so are the rows of our own.

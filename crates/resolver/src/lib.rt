@@ -166,7 +166,8 @@ fn ask(image: &[u8], c: Counts, h: Handle, f: How, slash: bool) -> Ask
 // The answer over a table that was accepted before, for a caller who checked it once.
 pub fn resolve_accepted<'a>(image: &'a [u8], h: Handle, path: &'a [u8], how: &[u8]) -> Answer
     requires { ⌜ tableCheck (now image) ≡ Accepted ⌝ }
-    ensures { λ r. ⌜ (r ≡ resolve (now (image .entry)) h (now (path .entry)) (now (how .entry))) × Bounded (progressOf r) × (now (image .exit) ≡ now (image .entry)) × (now (path .exit) ≡ now (path .entry)) × (now (how .exit) ≡ now (how .entry)) ⌝ }
+    ensures { λ r. ⌜ (r ≡ resolve (now (image .entry)) h (now (path .entry)) (now (how .entry))) × Bounded (progressOf r)
+        × (now (image .exit) ≡ now (image .entry)) × (now (path .exit) ≡ now (path .entry)) × (now (how .exit) ≡ now (how .entry)) ⌝ }
 {
     let c = read_counts(image);
     let read = check_call(image, c, h, path, how);
@@ -182,7 +183,8 @@ pub fn resolve_accepted<'a>(image: &'a [u8], h: Handle, path: &'a [u8], how: &[u
 
 // The answer, for any bytes at all. Its counts are at most 83,968 and 40, and what is lent stays as it was.
 pub fn resolve<'a>(image: &'a [u8], h: Handle, path: &'a [u8], how: &[u8]) -> Answer
-    ensures { λ r. ⌜ (r ≡ resolve (now (image .entry)) h (now (path .entry)) (now (how .entry))) × Bounded (progressOf r) × (now (image .exit) ≡ now (image .entry)) × (now (path .exit) ≡ now (path .entry)) × (now (how .exit) ≡ now (how .entry)) ⌝ }
+    ensures { λ r. ⌜ (r ≡ resolve (now (image .entry)) h (now (path .entry)) (now (how .entry))) × Bounded (progressOf r)
+        × (now (image .exit) ≡ now (image .entry)) × (now (path .exit) ≡ now (path .entry)) × (now (how .exit) ≡ now (how .entry)) ⌝ }
 {
     let verdict = check(image);
     match verdict {
@@ -212,7 +214,9 @@ pub fn resolve_pair<'a>(
     then: Handle,
     restricted: &[u8],
 ) -> Pair
-    ensures { λ r. ⌜ Compared (now (image .entry)) (now (path .entry)) h (now (how .entry)) then (now (restricted .entry)) (r .first) (r .second) × (now (image .exit) ≡ now (image .entry)) × (now (path .exit) ≡ now (path .entry)) × (now (how .exit) ≡ now (how .entry)) × (now (restricted .exit) ≡ now (restricted .entry)) ⌝ }
+    ensures { λ r. ⌜ Compared (now (image .entry)) (now (path .entry)) h (now (how .entry)) then (now (restricted .entry)) (r .first) (r .second)
+        × (now (image .exit) ≡ now (image .entry)) × (now (path .exit) ≡ now (path .entry)) × (now (how .exit) ≡ now (how .entry))
+        × (now (restricted .exit) ≡ now (restricted .entry)) ⌝ }
 {
     let first = resolve(image, h, path, how);
     let second = resolve(image, then, path, restricted);

@@ -8,7 +8,7 @@ use lib.ListN.{take, drop}
 use Rattle.model.specs.Bytes.{part, contains}
 
 -- both parts of a disjunction that does not hold
-neither : (a b : Bool) → (a || b) ≡ false → (a ≡ false) × (b ≡ false)
+pub neither : (a b : Bool) → (a || b) ≡ false → (a ≡ false) × (b ≡ false)
 neither true b e = absurd (true≢false e)
 neither false b e = (refl, e)
 

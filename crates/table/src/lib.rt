@@ -39,7 +39,8 @@ fn is_signed(image: &[u8]) -> bool
 // Rule 3.
 fn sizes_fit(image: &[u8], c: Counts, text: usize) -> bool
     requires { ⌜ (20 ≤ length (now image)) × (c ≡ countsOf (now image)) × (text ≡ sizesOf (now image) .text) × (text < 2 ^ 32) ⌝ }
-    ensures { λ r. ⌜ r ≡ countsFit (sizesOf (now (image .entry))) && eqb (field 4 (now (image .entry)) 16) (wholeLength (sizesOf (now (image .entry)))) && eqb (length (now (image .entry))) (wholeLength (sizesOf (now (image .entry)))) ⌝ }
+    ensures { λ r. ⌜ r ≡ countsFit (sizesOf (now (image .entry))) && eqb (field 4 (now (image .entry)) 16) (wholeLength (sizesOf (now (image .entry))))
+        && eqb (length (now (image .entry))) (wholeLength (sizesOf (now (image .entry)))) ⌝ }
 {
     if c.nodes == 0 {
         return false;

@@ -1,20 +1,22 @@
 -- Laws of names: forbidden bytes from a position on, the names "." and "..", and names in a text seen to be clean. Assumes nothing.
 use Prim.Native.Nat.{ℕ, _+_, _/_, _≤_, _<_}
-use mathlib.Core.Bool.{Bool, true, false, not, _&&_, _||_, and-true, and-false}
+use mathlib.Core.Bool.{Bool, true, false, cond, not, _&&_, _||_, and-true, and-false}
 use mathlib.Core.List.{List, [], _∷_}
 use mathlib.Core.Path.{_≡_, refl, ap, ap₂, _∙_}
 use native.Mathlib.Omega.{arith}
-use borrow.Author.Tests.{eq-eqb, ne-eqb, not-true}
-use lib.Dec.{eqb, leb}
+use borrow.Author.Tests.{eq-eqb, ne-eqb, le-leb, not-true}
+use lib.Dec.{eqb, ltb, leb}
 use lib.ListN.{length, getD, drop}
 use Rattle.model.specs.Bytes.{contains, sameBytes, ascii, part}
-use Rattle.model.specs.Tree.{Tree}
+use Rattle.model.specs.Tree.{Tree, nameOffsetIn, nameLengthIn, nameIn}
 use Rattle.model.specs.TableCheck.{nameHolds}
 use Rattle.theorems.proofs.Cases.{both}
 use Rattle.theorems.proofs.StringLaws.{contains-next, contains-end}
 use Rattle.parts.specs.declared.records.Counts.{Counts}
-use Rattle.strings.proofs.PartLaws.{not-in-part}
-use Rattle.table_entries.specs.Texts.{seenClean}
+use Rattle.strings.proofs.PartLaws.{neither, not-in-part}
+use Rattle.table_texts.specs.Barred.{holdsBarred, nameBarred, sureRecords}
+use Rattle.table_texts.proofs.SureLaws.{sure-clean}
+use Rattle.table_entries.specs.Texts.{seenClean, sureNames}
 
 -- a zero byte or a slash
 abbrev pub forbids : List ℕ → Bool
@@ -73,14 +75,14 @@ dots-two (x ∷ (y ∷ [])) h e = rw (eq-eqb x 46 e) (and-true (eqb y 46))
 dots-two (x ∷ (y ∷ (z ∷ s))) h e = absurd (omega arith)
 
 -- the tests of a name, by these two
-neither : (a b c d : Bool) → (not a && not b && not c && not d) ≡ (not (a || b) && not (c || d))
-neither true b c d = refl
-neither false true c d = refl
-neither false false true d = refl
-neither false false false d = refl
+in-pairs : (a b c d : Bool) → (not a && not b && not c && not d) ≡ (not (a || b) && not (c || d))
+in-pairs true b c d = refl
+in-pairs false true c d = refl
+in-pairs false false true d = refl
+in-pairs false false false d = refl
 
 tests : (x a b c d : Bool) → (x && not a && not b && not c && not d) ≡ (x && (not (a || b) && not (c || d)))
-tests true a b c d = neither a b c d
+tests true a b c d = in-pairs a b c d
 tests false a b c d = refl
 
 -- the sentence on names: where the name lies and how long it is, then its bytes
@@ -102,3 +104,23 @@ name-clean c text at n e =
     let a = both (many && not (contains 0 text)) (not (contains 47 text)) e in
     let b = both many (not (contains 0 text)) (a .0) in
     (not-in-part 0 text at n (not-true _ (b .1)), not-in-part 47 text at n (not-true _ (a .1)))
+
+-- a name inside the text that is not barred has neither
+unbarred : (entries text : List ℕ) (e : ℕ) → nameOffsetIn entries e + nameLengthIn entries e ≤ length text
+    → nameBarred entries text e ≡ false → (contains 0 (nameIn entries text e) ≡ false) × (contains 47 (nameIn entries text e) ≡ false)
+unfolding nameBarred holdsBarred
+unbarred entries text e inside h =
+    neither (contains 0 (nameIn entries text e)) (contains 47 (nameIn entries text e))
+    (rw (le-leb (nameOffsetIn entries e + nameLengthIn entries e) (length text) inside) at h)
+
+-- the names of entries that are sure have neither
+pub sure-name : (c : Counts) (entries text : List ℕ) (e : ℕ) → e < sureNames c entries text → nameOffsetIn entries e + nameLengthIn entries e ≤ length text
+    → (contains 0 (nameIn entries text e) ≡ false) × (contains 47 (nameIn entries text e) ≡ false)
+unfolding sureNames
+sure-name c entries text e h inside = by (seenClean c text) refl (ltb (c .entries) 16) h
+  where
+    by : (a : Bool) → seenClean c text ≡ a → (b : Bool) → e < cond a (c .entries) (cond b 0 (sureRecords true entries text (c .entries)))
+        → (contains 0 (nameIn entries text e) ≡ false) × (contains 47 (nameIn entries text e) ≡ false)
+    by true f b h = name-clean c text (nameOffsetIn entries e) (nameLengthIn entries e) f
+    by false f true h = absurd (omega arith)
+    by false f false h = unbarred entries text e inside (sure-clean true entries text (c .entries) e h)

@@ -3,7 +3,7 @@
 mod names;
 
 use crate::names::name_holds;
-use crate::names::text_clean;
+use crate::names::sure_names;
 use parts::records::Counts;
 use parts::records::entry_node;
 use parts::records::node_count;
@@ -24,7 +24,7 @@ ghost use Rattle.parts.specs.Parts.{entriesTree, NodeRecords};
 ghost use Rattle.parts.specs.Searches.{searchOf};
 ghost use Rattle.table_entries.specs.Given.{Given, Named};
 ghost use Rattle.table_entries.specs.Ranges.{badIn, badOf, ascendsFrom, endsEntries};
-ghost use Rattle.table_entries.specs.Texts.{seenClean};
+ghost use Rattle.table_entries.specs.Texts.{sureNames};
 
 // `first` is the first entry of the directory that holds the entry.
 fn entry_ascends(entries: &[u8], text: &[u8], first: usize, e: usize) -> bool
@@ -61,14 +61,14 @@ fn entry_holds(
     n: usize,
     first: usize,
     e: usize,
-    clean: bool,
+    sure: usize,
 ) -> bool
     requires { ⌜ Given c (now nodes) (now entries) (now text) × Held (entriesTree c (now nodes) (now entries) (now text)) n e
         × (first ≡ firstIn (now nodes) n) × (first < e → nameHolds (entriesTree c (now nodes) (now entries) (now text)) (e - 1) ≡ true)
-        × (clean ≡ seenClean c (now text)) ⌝ }
+        × (sure ≡ sureNames c (now entries) (now text)) ⌝ }
     ensures { λ r. ⌜ r ≡ entryHolds (entriesTree c (now (nodes .entry)) (now (entries .entry)) (now (text .entry))) e ⌝ }
 {
-    if !name_holds(entries, text, c, e, clean) {
+    if !name_holds(entries, text, c, e, sure) {
         return false;
     }
     let node = entry_node(entries, e);
@@ -87,10 +87,10 @@ fn bad_in_directory(
     text: &[u8],
     c: Counts,
     n: usize,
-    clean: bool,
+    sure: usize,
 ) -> Search
     requires { ⌜ Given c (now nodes) (now entries) (now text) × (isDirectory (entriesTree c (now nodes) (now entries) (now text)) n ≡ true)
-        × (clean ≡ seenClean c (now text)) ⌝ }
+        × (sure ≡ sureNames c (now entries) (now text)) ⌝ }
     ensures { λ r. ⌜ r ≡ searchOf (badIn (entriesTree c (now (nodes .entry)) (now (entries .entry)) (now (text .entry)))
         (firstIn (now (nodes .entry)) n) (countIn (now (nodes .entry)) n)) ⌝ }
 {
@@ -98,7 +98,7 @@ fn bad_in_directory(
     let end = first + node_count(nodes, n);
     let mut e = first;
     while e < end {
-        if !entry_holds(nodes, entries, text, c, n, first, e, clean) {
+        if !entry_holds(nodes, entries, text, c, n, first, e, sure) {
             return Search::At(e);
         }
         e += 1;
@@ -112,15 +112,15 @@ fn bad_in_node(
     text: &[u8],
     c: Counts,
     n: usize,
-    clean: bool,
+    sure: usize,
 ) -> Search
-    requires { ⌜ Given c (now nodes) (now entries) (now text) × (n < c .nodes) × (clean ≡ seenClean c (now text)) ⌝ }
+    requires { ⌜ Given c (now nodes) (now entries) (now text) × (n < c .nodes) × (sure ≡ sureNames c (now entries) (now text)) ⌝ }
     ensures { λ r. ⌜ r ≡ searchOf (badOf (entriesTree c (now (nodes .entry)) (now (entries .entry)) (now (text .entry))) n) ⌝ }
 {
     if node_kind(nodes, n) != 1 {
         return Search::Nowhere;
     }
-    bad_in_directory(nodes, entries, text, c, n, clean)
+    bad_in_directory(nodes, entries, text, c, n, sure)
 }
 
 // Whether a directory has the last entry: the nodes after it have none.
@@ -134,14 +134,14 @@ fn ends_entries(nodes: &[u8], c: Counts, n: usize) -> bool
     node_first(nodes, n) + node_count(nodes, n) == c.entries
 }
 
-fn bad_entry(nodes: &[u8], entries: &[u8], text: &[u8], c: Counts, clean: bool) -> Search
-    requires { ⌜ Given c (now nodes) (now entries) (now text) × (clean ≡ seenClean c (now text)) ⌝ }
+fn bad_entry(nodes: &[u8], entries: &[u8], text: &[u8], c: Counts, sure: usize) -> Search
+    requires { ⌜ Given c (now nodes) (now entries) (now text) × (sure ≡ sureNames c (now entries) (now text)) ⌝ }
     ensures { λ r. ⌜ r ≡ searchOf (rule5 (entriesTree c (now (nodes .entry)) (now (entries .entry)) (now (text .entry)))) ⌝ }
 {
     let end = c.nodes;
     let mut n = 0;
     while n < end {
-        let found = bad_in_node(nodes, entries, text, c, n, clean);
+        let found = bad_in_node(nodes, entries, text, c, n, sure);
         if let Search::At(e) = found {
             return Search::At(e);
         }
@@ -160,5 +160,5 @@ pub fn first_bad_entry(nodes: &[u8], entries: &[u8], text: &[u8], c: Counts) -> 
     if c.entries == 0 {
         return Search::Nowhere;
     }
-    bad_entry(nodes, entries, text, c, text_clean(text, c))
+    bad_entry(nodes, entries, text, c, sure_names(entries, text, c))
 }

@@ -1,9 +1,11 @@
 // An entry's name by itself: where it lies, how long it is, and which bytes it may not be.
+use parts::lending::lend;
 use parts::records::Counts;
 use parts::records::name_length;
 use parts::records::name_offset;
 use parts::texts::name;
 use strings::holds_byte;
+use table_texts::sure_records;
 ghost use mathlib.Core.Bool.{true, false, _||_};
 ghost use mathlib.Core.Path.{_≡_};
 ghost use mathlib.Core.List.{[]};
@@ -13,7 +15,7 @@ ghost use lib.ListN.{length};
 ghost use Rattle.model.specs.Bytes.{contains, sameBytes, ascii};
 ghost use Rattle.model.specs.TableCheck.{nameHolds};
 ghost use Rattle.parts.specs.Parts.{entriesTree, EntryRecords};
-ghost use Rattle.table_entries.specs.Texts.{seenClean};
+ghost use Rattle.table_entries.specs.Texts.{seenClean, sureNames};
 
 fn forbidden(b: u8) -> bool
     ensures { λ r. ⌜ r ≡ eqb b 0 || eqb b 47 ⌝ }
@@ -95,7 +97,7 @@ fn is_dots(s: &[u8]) -> bool
 
 // Whether the text is seen to have no zero byte and no slash. It is read, once for all names, where that costs no more than it saves:
 // not where the entries are few or the text is long beside them.
-pub fn text_clean(text: &[u8], c: Counts) -> bool
+fn text_clean(text: &[u8], c: Counts) -> bool
     ensures { λ r. ⌜ r ≡ seenClean c (now (text .entry)) ⌝ }
 {
     if c.entries < 16 + text.len() / 64 {
@@ -107,8 +109,22 @@ pub fn text_clean(text: &[u8], c: Counts) -> bool
     !holds_byte(text, 47)
 }
 
-pub fn name_holds(entries: &[u8], text: &[u8], c: Counts, e: usize, clean: bool) -> bool
-    requires { ⌜ EntryRecords c (now entries) × (e < c .entries) × (clean ≡ seenClean c (now text)) ⌝ }
+// How many entries, from the first on, are known to have no zero byte and no slash in their names.
+pub fn sure_names(entries: &[u8], text: &[u8], c: Counts) -> usize
+    requires { ⌜ EntryRecords c (now entries) ⌝ }
+    ensures { λ r. ⌜ r ≡ sureNames c (now (entries .entry)) (now (text .entry)) ⌝ }
+{
+    if text_clean(text, c) {
+        return c.entries;
+    }
+    if c.entries < 16 {
+        return 0;
+    }
+    sure_records(lend(entries), lend(text), c.entries, true)
+}
+
+pub fn name_holds(entries: &[u8], text: &[u8], c: Counts, e: usize, sure: usize) -> bool
+    requires { ⌜ EntryRecords c (now entries) × (e < c .entries) × (sure ≡ sureNames c (now entries) (now text)) ⌝ }
     ensures { λ r. ⌜ r ≡ nameHolds (entriesTree c [] (now (entries .entry)) (now (text .entry))) e ⌝ }
 {
     let length = name_length(entries, e);
@@ -122,7 +138,7 @@ pub fn name_holds(entries: &[u8], text: &[u8], c: Counts, e: usize, clean: bool)
         return false;
     }
     let s = name(entries, text, e);
-    if holds_forbidden(s, clean) {
+    if holds_forbidden(s, e < sure) {
         return false;
     }
     !is_dots(s)

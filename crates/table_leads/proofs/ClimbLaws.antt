@@ -13,10 +13,11 @@ use Rattle.theorems.proofs.Acceptance.{parent-directory}
 use Rattle.theorems.proofs.ByteLaws.{find-on}
 use Rattle.theorems.proofs.UnderLaws.{under-parent, under-self}
 use Rattle.table_leads.specs.Climbs.{climbed, stepsAfter, unseenFrom}
-use Rattle.table_leads.specs.Leads.{leadBy, keeps, foundOr, brokenFrom}
+use Rattle.parts.specs.Searches.{foundOr}
+use Rattle.table_leads.specs.Leads.{leadBy, keeps, brokenFrom}
 use Rattle.table_leads.specs.declared.Lead.{Lead}
 use Rattle.table_leads.specs.declared.Lead.the-variants.{Settled, Into, Dangling}
-use Rattle.table_leads.proofs.FoundLaws.{found-done}
+use Rattle.parts.proofs.FoundLaws.{found-done}
 use Rattle.table_leads.proofs.LeadLaws.{into-facts}
 
 -- a step of a climb, and its ends

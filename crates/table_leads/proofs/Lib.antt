@@ -1,3 +1,2 @@
 pub mod ClimbLaws
-pub mod FoundLaws
 pub mod LeadLaws

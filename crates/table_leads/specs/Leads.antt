@@ -1,10 +1,10 @@
 -- Rules 6 and 7 in the parts that the code decides: what a record alone tells, and whether a directory is under a mount's root.
 use Prim.Native.Nat.{ℕ, zero, suc, _-_}
 use mathlib.Core.Bool.{Bool, true, false, cond, not, _&&_}
-use mathlib.Core.Option.{Option, none, some}
 use lib.Dec.{eqb, ltb}
 use Rattle.model.specs.Bytes.{find}
 use Rattle.model.specs.Tree.{Tree, byKind, isDirectory, under}
+use Rattle.parts.specs.Searches.{foundOr}
 use Rattle.parts.specs.declared.records.Counts.{Counts}
 use Rattle.table_leads.specs.declared.Lead.{Lead}
 use Rattle.table_leads.specs.declared.Lead.the-variants.{Settled, Into, Dangling}
@@ -52,11 +52,6 @@ abbrev pub keeps : Tree → Lead → Bool
 keeps t Settled = true
 keeps t (Into mount node) = under t node (t .mountRoot mount)
 keeps t Dangling = false
-
--- a number that a search found, else another
-abbrev pub foundOr : ℕ → Option ℕ → ℕ
-foundOr end none = end
-foundOr end (some k) = k
 
 -- the lowest record from `from` on, below `end`, that breaks what its lead leaves of the rule, else `end`
 unfoldable pub brokenFrom : Bool → Tree → ℕ → ℕ → ℕ

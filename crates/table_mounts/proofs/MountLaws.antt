@@ -16,7 +16,7 @@ use Rattle.parts.specs.Parts.{mountsTree}
 use Rattle.parts.specs.declared.records.Counts.{Counts}
 use Rattle.table_leads.specs.Leads.{hangsLead, mountLead, settled, keeps, brokenFrom}
 use Rattle.table_leads.specs.declared.Lead.the-variants.{Settled, Dangling}
-use Rattle.table_leads.proofs.FoundLaws.{Found, found, found-here, found-on}
+use Rattle.parts.proofs.FoundLaws.{Found, found, found-here, found-on}
 use Rattle.table_leads.proofs.LeadLaws.{mount-keeps}
 use Rattle.table_mounts.specs.Clashes.{uncounted, firstClash}
 

@@ -7,7 +7,7 @@ use Rattle.model.specs.Bytes.{find}
 use Rattle.model.specs.Tree.{Tree, mountParentIn, mountPointIn}
 use Rattle.model.specs.TableCheck.{sharesPoint}
 use Rattle.parts.specs.Parts.{mountsTree}
-use Rattle.table_leads.specs.Leads.{foundOr}
+use Rattle.parts.specs.Searches.{foundOr}
 
 -- mount records by themselves, of which as many are read as there are
 abbrev pub uncounted : List ℕ → Tree

@@ -1,4 +1,5 @@
 // Rule 4 of the table check: node records, one function for each sentence.
+use parts::lending::lend;
 use parts::records::Counts;
 use parts::records::node_count;
 use parts::records::node_first;
@@ -7,6 +8,7 @@ use parts::records::node_parent;
 use parts::search::Search;
 use parts::texts::body;
 use strings::holds_byte;
+use table_texts::sure_records;
 ghost use mathlib.Core.List.{[]};
 ghost use mathlib.Core.Path.{_≡_};
 ghost use Prim.Native.Nat.{_^_, _<_};
@@ -14,7 +16,7 @@ ghost use Rattle.model.specs.Tree.{kindIn};
 ghost use Rattle.model.specs.TableCheck.{countsBefore, directoryCount, directoryHolds, fileHolds, symlinkHolds, magicHolds, nodeHolds, rule4};
 ghost use Rattle.parts.specs.Parts.{nodesTree, NodeRecords};
 ghost use Rattle.parts.specs.Searches.{searchOf};
-ghost use Rattle.table_nodes.specs.Texts.{seenClean};
+ghost use Rattle.table_nodes.specs.Texts.{seenClean, sureBodies};
 
 // `sum` is the sum of earlier directories' counts. A parent numbered no higher than the node is below N, as the node is.
 fn directory_holds(nodes: &[u8], c: Counts, n: usize, sum: usize) -> bool
@@ -44,9 +46,9 @@ fn file_holds(nodes: &[u8], c: Counts, n: usize) -> bool
     node_count(nodes, n) == 0
 }
 
-// In a text that is seen to be clean no body has a zero byte.
-fn symlink_holds(nodes: &[u8], text: &[u8], c: Counts, n: usize, clean: bool) -> bool
-    requires { ⌜ NodeRecords c (now nodes) × (n < c .nodes) × (clean ≡ seenClean c (now text)) ⌝ }
+// The bodies of nodes below `sure` are known to have no zero byte.
+fn symlink_holds(nodes: &[u8], text: &[u8], c: Counts, n: usize, sure: usize) -> bool
+    requires { ⌜ NodeRecords c (now nodes) × (n < c .nodes) × (kindIn (now nodes) n ≡ 3) × (sure ≡ sureBodies c (now nodes) (now text)) ⌝ }
     ensures { λ r. ⌜ r ≡ symlinkHolds (nodesTree c (now (nodes .entry)) (now (text .entry))) n ⌝ }
 {
     let count = node_count(nodes, n);
@@ -62,7 +64,7 @@ fn symlink_holds(nodes: &[u8], text: &[u8], c: Counts, n: usize, clean: bool) ->
     if 4095 < count {
         return false;
     }
-    if clean {
+    if n < sure {
         return true;
     }
     !holds_byte(body(nodes, text, n), 0)
@@ -83,16 +85,16 @@ fn node_holds(
     n: usize,
     kind: usize,
     sum: usize,
-    clean: bool,
+    sure: usize,
 ) -> bool
     requires { ⌜ NodeRecords c (now nodes) × (n < c .nodes) × (kind ≡ kindIn (now nodes) n)
-        × (sum ≡ countsBefore (nodesTree c (now nodes) (now text)) n) × (clean ≡ seenClean c (now text)) ⌝ }
+        × (sum ≡ countsBefore (nodesTree c (now nodes) (now text)) n) × (sure ≡ sureBodies c (now nodes) (now text)) ⌝ }
     ensures { λ r. ⌜ r ≡ nodeHolds (nodesTree c (now (nodes .entry)) (now (text .entry))) n ⌝ }
 {
     match kind {
         1 => directory_holds(nodes, c, n, sum),
         2 => file_holds(nodes, c, n),
-        3 => symlink_holds(nodes, text, c, n, clean),
+        3 => symlink_holds(nodes, text, c, n, sure),
         4 => magic_holds(nodes, c, n),
         _ => false,
     }
@@ -117,17 +119,31 @@ fn text_clean(text: &[u8], c: Counts) -> bool
     !holds_byte(text, 0)
 }
 
+// How many nodes, from the first on, are known to have no zero byte in their bodies: all of them in a text that is seen to have none.
+fn sure_bodies(nodes: &[u8], text: &[u8], c: Counts) -> usize
+    requires { ⌜ NodeRecords c (now nodes) ⌝ }
+    ensures { λ r. ⌜ r ≡ sureBodies c (now (nodes .entry)) (now (text .entry)) ⌝ }
+{
+    if text_clean(text, c) {
+        return c.nodes;
+    }
+    if c.nodes < 16 {
+        return 0;
+    }
+    sure_records(lend(nodes), lend(text), c.nodes, false)
+}
+
 pub fn first_bad_node(nodes: &[u8], text: &[u8], c: Counts) -> Search
     requires { ⌜ NodeRecords c (now nodes) ⌝ }
     ensures { λ r. ⌜ r ≡ searchOf (rule4 (nodesTree c (now (nodes .entry)) (now (text .entry)))) ⌝ }
 {
-    let clean = text_clean(text, c);
+    let sure = sure_bodies(nodes, text, c);
     let end = c.nodes;
     let mut sum = 0;
     let mut n = 0;
     while n < end {
         let kind = node_kind(nodes, n);
-        if !node_holds(nodes, text, c, n, kind, sum, clean) {
+        if !node_holds(nodes, text, c, n, kind, sum, sure) {
             return Search::At(n);
         }
         sum += directory_count(nodes, c, n, kind);

@@ -12,8 +12,9 @@ use Rattle.model.specs.TableCheck.{magicTargetHolds, rule7}
 use Rattle.theorems.proofs.ByteLaws.{find-alike, find-later}
 use Rattle.parts.specs.Parts.{mountsTree}
 use Rattle.parts.specs.declared.records.Counts.{Counts}
-use Rattle.table_leads.specs.Leads.{linkLead, settled, keeps, foundOr, brokenFrom}
-use Rattle.table_leads.proofs.FoundLaws.{Found, found, found-some, found-none}
+use Rattle.parts.specs.Searches.{foundOr}
+use Rattle.table_leads.specs.Leads.{linkLead, settled, keeps, brokenFrom}
+use Rattle.parts.proofs.FoundLaws.{Found, found, found-some, found-none}
 use Rattle.table_leads.proofs.LeadLaws.{settled-keeps, link-keeps}
 use Rattle.table_targets.specs.Targets.{firstUnsettled}
 

@@ -3,7 +3,8 @@ use Prim.Native.Nat.{ℕ}
 use mathlib.Core.Bool.{not}
 use Rattle.model.specs.Bytes.{find}
 use Rattle.model.specs.Tree.{Tree}
-use Rattle.table_leads.specs.Leads.{linkLead, settled, foundOr}
+use Rattle.parts.specs.Searches.{foundOr}
+use Rattle.table_leads.specs.Leads.{linkLead, settled}
 
 -- the lowest node whose record alone does not keep it, else the number of nodes
 unfoldable pub firstUnsettled : Tree → ℕ

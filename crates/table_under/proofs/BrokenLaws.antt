@@ -7,7 +7,8 @@ use lib.Dec.{eqb, ltb}
 use Rattle.model.specs.Tree.{Tree, isDirectory}
 use Rattle.theorems.proofs.ByteLaws.{find-here, find-on, find-done}
 use Rattle.theorems.proofs.Cases.{both}
-use Rattle.table_leads.specs.Leads.{leadBy, keeps, foundOr, brokenFrom}
+use Rattle.parts.specs.Searches.{foundOr}
+use Rattle.table_leads.specs.Leads.{leadBy, keeps, brokenFrom}
 use Rattle.table_leads.specs.declared.Lead.the-variants.{Into}
 use Rattle.table_leads.proofs.LeadLaws.{into-facts}
 use Rattle.table_under.specs.Rows.{Chart, Charted, within}

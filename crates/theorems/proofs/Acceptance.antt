@@ -12,7 +12,9 @@ use lib.ListN.{length, length-take, length-drop}
 use borrow.Author.Tests.{ltb-true, leb-true, eqb-true, eq-eqb, not-true}
 use Rattle.model.specs.Bytes.{contains, sameBytes, ascii, part, firstFailing, orElse}
 use Rattle.model.specs.Tree.{Tree, sizesOf, textPart, treeOf, isDirectory, lookup, under, mountOn}
-use Rattle.model.specs.TableCheck.{unless, rule1, rule2, rule3, countsFit, wholeLength, directoryCount, sumBelow, countsBefore, directoryHolds, symlinkHolds, nodeHolds, rule4, nameHolds, ascends, standsInParent, entryHolds, rule5, pointHolds, sharesPoint, hangs, mountHolds, rule6, targetHolds, magicTargetHolds, rule7, breaks, recordsCheck, tableCheck}
+use Rattle.model.specs.TableCheck.{unless, rule1, rule2, rule3, countsFit, wholeLength, directoryCount, sumBelow, countsBefore, directoryHolds, symlinkHolds, nodeHolds, rule4, nameHolds}
+use Rattle.model.specs.TableCheck.{ascends, standsInParent, entryHolds, rule5, pointHolds, sharesPoint, hangs, mountHolds, rule6, targetHolds, magicTargetHolds, rule7, breaks, recordsCheck}
+use Rattle.model.specs.TableCheck.{tableCheck}
 use Rattle.model.specs.declared.Place.{Place}
 use Rattle.model.specs.declared.Verdict.{Verdict}
 use Rattle.model.specs.declared.Verdict.the-variants.{Accepted}

@@ -14,7 +14,8 @@ use Rattle.model.specs.OpenHow.{flagsOf, resolveOf, IN-ROOT, O-DIRECTORY}
 use Rattle.model.specs.Path.{Component, isSlash, consIf, upToSlash, componentsFrom, components, absolute, endsInSlash, givenPath}
 use Rattle.model.specs.Handles.{placeOf}
 use Rattle.model.specs.Trace.{Event, Restrictions, Trace, stop, meet, stand, meets, forbids, refusedBy, answer}
-use Rattle.model.specs.Walk.{Request, rootOf, Landing, outside, target, reading, Step, fail, go, follow, oneComponent, taken, finish, isEmpty, Turn, refuses, went, followed, Transition, land, transitionBy, transition, turned, walkPending, noneLeft, walk, beginAt, walkPath}
+use Rattle.model.specs.Walk.{Request, rootOf, Landing, outside, target, reading, Step, fail, go, follow, oneComponent, taken, finish, isEmpty, Turn, refuses, went, followed, Transition}
+use Rattle.model.specs.Walk.{land, transitionBy, transition, turned, walkPending, noneLeft, walk, beginAt, walkPath}
 use Rattle.model.specs.Resolve.{refusedBefore, restrictions, requestOf, traceOf, unlessRefused, resolve}
 use Rattle.model.specs.declared.Place.{Place}
 use Rattle.model.specs.declared.Progress.{Progress}

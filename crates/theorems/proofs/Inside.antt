@@ -9,7 +9,8 @@ use lib.ListN.{length}
 use borrow.Author.Tests.{eqb-true}
 use Rattle.model.specs.Bytes.{sameBytes, ascii}
 use Rattle.model.specs.Tree.{Tree, isDirectory, isLink, lookup, mountOn}
-use Rattle.model.specs.Walk.{Request, placeAt, samePlace, rootOf, pointOf, Move, afterIf, enterBy, enter, toParent, climb, atTop, goUp, Landing, outside, target, reading, Step, fail, go, follow, magicLink, symbolicLink, followLink, stepTo, stepBy, byName, oneComponent}
+use Rattle.model.specs.Walk.{Request, placeAt, samePlace, rootOf, pointOf, Move, afterIf, enterBy, enter, toParent, climb, atTop, goUp, Landing, outside, target, reading, Step, fail, go}
+use Rattle.model.specs.Walk.{follow, magicLink, symbolicLink, followLink, stepTo, stepBy, byName, oneComponent}
 use Rattle.model.specs.Path.{absolute}
 use Rattle.model.specs.Trace.{Event, Escape}
 use Rattle.model.specs.declared.Place.{Place}

@@ -11,7 +11,8 @@ use Rattle.model.specs.Bytes.{orElse}
 use Rattle.model.specs.Path.{Component, components, endsInSlash}
 use Rattle.model.specs.Tree.{Tree, isDirectory}
 use Rattle.model.specs.Trace.{Event, Restrictions, Trace, meets, forbids, forbidAny, refusedBy, answer}
-use Rattle.model.specs.Walk.{Request, Landing, outside, target, reading, Step, fail, go, follow, taken, followedTo, oneComponent, isEmpty, Turn, refuses, went, followed, Transition, refusesAt, land, transitionBy, transition, turned, traced, walkPending, noneLeft, walk, finish}
+use Rattle.model.specs.Walk.{Request, Landing, outside, target, reading, Step, fail, go, follow, taken, followedTo, oneComponent, isEmpty, Turn, refuses, went, followed, Transition}
+use Rattle.model.specs.Walk.{refusesAt, land, transitionBy, transition, turned, traced, walkPending, noneLeft, walk, finish}
 use Rattle.model.specs.Step.{Configuration, Onward, more, done, failed, onWith, nextBy, failedBy, restricted, step, stepOf, answerFrom, answerAfter}
 use Rattle.model.specs.declared.Progress.{Progress}
 use Rattle.model.specs.declared.State.{State}

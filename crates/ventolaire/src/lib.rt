@@ -120,7 +120,8 @@ pub extern "C" fn ventolaire_resolve<'a>(
     how: &[u8],
     out: &mut [u64],
 ) -> usize
-    ensures { λ r. ⌜ Writes (answerNumbers (resolve (now (image .entry)) (handleOf mount node mark) (now (path .entry)) (now (how .entry)))) (now (out .entry)) (now (out .exit)) r × (now (image .exit) ≡ now (image .entry)) × (now (path .exit) ≡ now (path .entry)) × (now (how .exit) ≡ now (how .entry)) ⌝ }
+    ensures { λ r. ⌜ Writes (answerNumbers (resolve (now (image .entry)) (handleOf mount node mark) (now (path .entry)) (now (how .entry)))) (now (out .entry)) (now (out .exit)) r
+        × (now (image .exit) ≡ now (image .entry)) × (now (path .exit) ≡ now (path .entry)) × (now (how .exit) ≡ now (how .entry)) ⌝ }
 {
     if out.len() < 6 {
         return 0;
@@ -146,7 +147,8 @@ pub extern "C" fn ventolaire_resolve_accepted<'a>(
     out: &mut [u64],
 ) -> usize
     requires { ⌜ tableCheck (now image) ≡ Accepted ⌝ }
-    ensures { λ r. ⌜ Writes (answerNumbers (resolve (now (image .entry)) (handleOf mount node mark) (now (path .entry)) (now (how .entry)))) (now (out .entry)) (now (out .exit)) r × (now (image .exit) ≡ now (image .entry)) × (now (path .exit) ≡ now (path .entry)) × (now (how .exit) ≡ now (how .entry)) ⌝ }
+    ensures { λ r. ⌜ Writes (answerNumbers (resolve (now (image .entry)) (handleOf mount node mark) (now (path .entry)) (now (how .entry)))) (now (out .entry)) (now (out .exit)) r
+        × (now (image .exit) ≡ now (image .entry)) × (now (path .exit) ≡ now (path .entry)) × (now (how .exit) ≡ now (how .entry)) ⌝ }
 {
     if out.len() < 6 {
         return 0;

@@ -246,6 +246,9 @@ fn mounted(dice: &mut Dice) -> Draft {
 
 /// One directory full of links and magic links.
 fn heavy(dice: &mut Dice) -> Draft {
+    if dice.one_in(8) {
+        return crowded(dice);
+    }
     let mut draft = Draft::default();
     if dice.percent(30) {
         draft.magic(0, 0);
@@ -262,6 +265,34 @@ fn heavy(dice: &mut Dice) -> Draft {
             draft.magic(0, 0);
         }
     }
+    draft
+}
+
+/// A few long names and bodies that many directories and links have, in a text
+/// with bytes in it that none of them may hold.
+fn crowded(dice: &mut Dice) -> Draft {
+    let mut draft = Draft::default();
+    let top = draft.directory(None);
+    let file = draft.file();
+    let names: Vec<Vec<u8>> = (0..dice.from(1, 3))
+        .map(|_| {
+            let length = dice.from(60, 255);
+            long_name(dice, length)
+        })
+        .collect();
+    for _ in 0..dice.from(10, 40) {
+        let directory = draft.directory(Some(top));
+        for name in &names {
+            draft.name(directory, name, file);
+        }
+    }
+    let bodies: Vec<Vec<u8>> = (0..dice.from(1, 3)).map(|_| long_body(dice)).collect();
+    for _ in 0..dice.from(5, 30) {
+        let body = dice.choose(&bodies).cloned().unwrap_or_default();
+        draft.link(&body);
+    }
+    draft.before = (0..dice.from(1, 90)).map(|_| dice.pick(b"\0/.ab")).collect();
+    draft.after = (0..dice.from(1, 90)).map(|_| dice.pick(b"\0/.ab")).collect();
     draft
 }
 
@@ -410,7 +441,7 @@ fn namers(draft: &Draft) -> Vec<Option<(usize, Vec<u8>)>> {
 fn write_bodies(dice: &mut Dice, draft: &mut Draft) {
     let namers = namers(draft);
     for number in 0..draft.nodes.len() {
-        if matches!(draft.nodes[number], DraftNode::Link(_)) {
+        if matches!(&draft.nodes[number], DraftNode::Link(body) if body.is_empty()) {
             let body = body(dice, draft, &namers, number);
             draft.nodes[number] = DraftNode::Link(body);
         }

@@ -41,20 +41,22 @@ loop-less : tie.Need-loop-less Inv-loop μ-loop
 loop-less c = search needs
 
 loop-again : tie.Need-loop-again Inv-loop μ-loop
-loop-again c = (
-  search needs,
-  c .before .before .loop .inv .1,
-  c .before .before .loop .inv .2,
-  below-more _ _ (c .before .before .loop .inv .3) (c .if1 .left),
-)
+loop-again c =
+    let loop = c .before .before .loop in (
+      search needs,
+      loop .inv .1,
+      loop .inv .2,
+      below-more _ _ (loop .inv .3) (c .if1 .left),
+    )
 
 returns-2 : tie.Need-returns-2 Inv-loop μ-loop
 returns-2 c =
+    let args = c .before .before .args in
     λ e.
     ext-getD
     0
-    (c .before .before .args .t1)
-    (c .before .before .args .t2)
+    (args .t1)
+    (args .t2)
     (cc)
     (λ i l. c .before .loop .inv .3 i (omega arith))
 

@@ -29,15 +29,19 @@ returns-2 : tie.Need-returns-2
 returns-2 c =
     let args = c .before .before .before .before .before .args in
     let dots = c .before .before .dots in
-    let match′ = c .before .match in
-    c .go-up .ensures ∙ sym (two-dots (restrictionsFor (args .k)) (args .links) (requestFor (now (args .image)) (args .k)) (args .last) (args .p) (now (args .name)) (sym (dots .ensures) ∙ match′ .keys2))
+    let matched = c .before .match in
+    let match′ = matched in
+    c .go-up .ensures
+    ∙ sym (two-dots (restrictionsFor (args .k)) (args .links) (requestFor (now (args .image)) (args .k)) (args .last) (args .p) (now (args .name)) (sym (dots .ensures) ∙ match′ .keys2))
 
 returns-3 : tie.Need-returns-3
 returns-3 c =
     let args = c .before .before .before .before .before .args in
     let dots = c .before .before .dots in
-    let match′ = c .before .match in
-    c .by-name .ensures ∙ sym (no-dots (restrictionsFor (args .k)) (args .links) (requestFor (now (args .image)) (args .k)) (args .last) (args .p) (now (args .name)) (λ e. match′ .rest .0 .1 (dots .ensures ∙ e)) (λ e. match′ .rest .1 (dots .ensures ∙ e)))
+    let matched = c .before .match in
+    let match′ = matched in
+    c .by-name .ensures
+    ∙ sym (no-dots (restrictionsFor (args .k)) (args .links) (requestFor (now (args .image)) (args .k)) (args .last) (args .p) (now (args .name)) (λ e. match′ .rest .0 .1 (dots .ensures ∙ e)) (λ e. match′ .rest .1 (dots .ensures ∙ e)))
 
 pub take-component-spec : {M : Type 1} → statement M
 take-component-spec =

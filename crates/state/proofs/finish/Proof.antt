@@ -9,7 +9,9 @@ use Rattle.state.proofs.finish.Statement.{statement}
 use Rattle.state.proofs.finish.Tie as tie
 
 node-kind-requires : tie.Need-node-kind-requires
-node-kind-requires c κs = (c .before .before .before .pre .0 .reading .counted .sized, c .before .before .before .pre .1 .node-below)
+node-kind-requires c κs =
+    let pre = c .before .before .before .pre in
+    (pre .0 .reading .counted .sized, pre .1 .node-below)
 
 refuse-requires : tie.Need-refuse-requires
 refuse-requires c κs = tt
@@ -17,8 +19,11 @@ refuse-requires c κs = tt
 returns : tie.Need-returns
 returns c =
     let a = c .before .before .before .before .before .before .before .args in
-    let kind = c .before .before .before .node-kind .ensures .0 in
-    c .refuse .ensures ∙ end-required (requestFor (now (a .image)) (a .k)) (a .s) (c .before .if1 .taken) (λ e. omega (arith, kind, c .before .before .match .keys2))
+    let node-kind = c .before .before .before .node-kind in
+    let if1 = c .before .if1 in
+    let matched = c .before .before .match in
+    let kind = node-kind .ensures .0 in
+    c .refuse .ensures ∙ end-required (requestFor (now (a .image)) (a .k)) (a .s) (if1 .taken) (λ e. omega (arith, kind, matched .keys2))
 
 refuse-requires-2 : tie.Need-refuse-requires-2
 refuse-requires-2 c κs = tt
@@ -26,8 +31,11 @@ refuse-requires-2 c κs = tt
 returns-2 : tie.Need-returns-2
 returns-2 c =
     let a = c .before .before .before .before .before .before .before .before .before .args in
-    let kind = c .before .before .before .before .before .node-kind .ensures .0 in
-    c .refuse2 .ensures ∙ end-required (requestFor (now (a .image)) (a .k)) (a .s) (c .before .if4 .taken) (λ e. omega (arith, kind, c .before .before .before .if2 .left))
+    let node-kind = c .before .before .before .before .before .node-kind in
+    let if4 = c .before .if4 in
+    let if2 = c .before .before .before .if2 in
+    let kind = node-kind .ensures .0 in
+    c .refuse2 .ensures ∙ end-required (requestFor (now (a .image)) (a .k)) (a .s) (if4 .taken) (λ e. omega (arith, kind, if2 .left))
 
 returns-3 : tie.Need-returns-3
 returns-3 c =
@@ -43,13 +51,18 @@ refuse-requires-4 c κs = tt
 returns-4 : tie.Need-returns-4
 returns-4 c =
     let a = c .before .before .before .before .before .before .before .before .args in
-    let kind = c .before .before .before .before .node-kind .ensures .0 in
-    c .refuse4 .ensures ∙ end-required (requestFor (now (a .image)) (a .k)) (a .s) (c .before .if6 .taken) (λ e. c .before .before .before .match .rest .0 .1 (kind ∙ e))
+    let node-kind = c .before .before .before .before .node-kind in
+    let if6 = c .before .if6 in
+    let matched = c .before .before .before .match in
+    let kind = node-kind .ensures .0 in
+    c .refuse4 .ensures ∙ end-required (requestFor (now (a .image)) (a .k)) (a .s) (if6 .taken) (λ e. matched .rest .0 .1 (kind ∙ e))
 
 returns-5 : tie.Need-returns-5
 returns-5 c =
     let a = c .before .before .before .before .before .args in
-    end-directory (requestFor (now (a .image)) (a .k)) (a .s) (c .before .before .before .before .before .pre .1 .node-below) (sym (c .before .node-kind .ensures .0) ∙ c .match .keys1)
+    let pre = c .before .before .before .before .before .pre in
+    let node-kind = c .before .node-kind in
+    end-directory (requestFor (now (a .image)) (a .k)) (a .s) (pre .1 .node-below) (sym (node-kind .ensures .0) ∙ c .match .keys1)
 
 returns-6 : tie.Need-returns-6
 returns-6 c =
@@ -61,10 +74,15 @@ returns-6 c =
 returns-7 : tie.Need-returns-7
 returns-7 c =
     let a = c .before .before .before .before .before .before .before .before .before .before .args in
-    let kind = c .before .before .before .before .before .before .node-kind .ensures .0 in
-    let low = c .before .before .before .before .if2 .left in
-    let high = c .before .before .before .if3 .taken in
-    c .refuse3 .ensures ∙ end-link (requestFor (now (a .image)) (a .k)) (a .s) (c .before .before .if4 .left) (omega (arith, kind, low)) (omega (arith, kind, high)) (c .before .if5 .left)
+    let node-kind = c .before .before .before .before .before .before .node-kind in
+    let if2 = c .before .before .before .before .if2 in
+    let if3 = c .before .before .before .if3 in
+    let if4 = c .before .before .if4 in
+    let if5 = c .before .if5 in
+    let kind = node-kind .ensures .0 in
+    let low = if2 .left in
+    let high = if3 .taken in
+    c .refuse3 .ensures ∙ end-link (requestFor (now (a .image)) (a .k)) (a .s) (if4 .left) (omega (arith, kind, low)) (omega (arith, kind, high)) (if5 .left)
 
 returns-8 : tie.Need-returns-8
 returns-8 c =

@@ -23,7 +23,10 @@ loop-holds : tie.Need-loop-holds Inv-loop μ-loop
 loop-holds c = (omega arith, omega arith, refl)
 
 returns : tie.Need-returns Inv-loop μ-loop
-returns c = sym (c .before .before .loop .inv .2 ∙ before-short (now (c .before .before .before .args .a)) (now (c .before .before .before .args .b)) (c .before .before .loop .i) (c .if1 .taken))
+returns c =
+    let loop = c .before .before .loop in
+    let args = c .before .before .before .args in
+    sym (loop .inv .2 ∙ before-short (now (args .a)) (now (args .b)) (loop .i) (c .if1 .taken))
 
 shared-slice-read-if2 : tie.Need-shared-slice-read-if2 Inv-loop μ-loop
 shared-slice-read-if2 c = omega arith
@@ -39,9 +42,14 @@ shared-slice-read-result-2 c = omega arith
 
 returns-2 : tie.Need-returns-2 Inv-loop μ-loop
 returns-2 c =
-    let a = now (c .before .before .before .before .before .before .before .before .args .a) in
-    let b = now (c .before .before .before .before .before .before .before .before .args .b) in
-    sym (c .before .before .before .before .before .before .before .loop .inv .2 ∙ before-next a b (c .before .before .before .before .before .before .before .loop .i) (c .before .before .before .before .before .before .loop-test .taken) (c .before .before .before .before .before .if1 .left) ∙ rw (ne-eqb _ _ (c .before .before .if2 .taken)) (or-false _))
+    let args = c .before .before .before .before .before .before .before .before .args in
+    let loop = c .before .before .before .before .before .before .before .loop in
+    let test = c .before .before .before .before .before .before .loop-test in
+    let if1 = c .before .before .before .before .before .if1 in
+    let if2 = c .before .before .if2 in
+    let a = now (args .a) in
+    let b = now (args .b) in
+    sym (loop .inv .2 ∙ before-next a b (loop .i) (test .taken) (if1 .left) ∙ rw (ne-eqb _ _ (if2 .taken)) (or-false _))
 
 add-i : tie.Need-add-i Inv-loop μ-loop
 add-i c = omega arith
@@ -51,12 +59,19 @@ loop-less c = omega arith
 
 loop-again : tie.Need-loop-again Inv-loop μ-loop
 loop-again c =
-    let a = now (c .before .before .before .before .before .before .args .a) in
-    let b = now (c .before .before .before .before .before .before .args .b) in
-    (omega arith, omega arith, c .before .before .before .before .before .loop .inv .2 ∙ before-next a b (c .before .before .before .before .before .loop .i) (c .before .before .before .before .loop-test .taken) (c .before .before .before .if1 .left) ∙ rw (le-ltb _ _ (le-of-eq (sym (c .if2 .left))), eq-eqb _ _ (c .if2 .left)))
+    let args = c .before .before .before .before .before .before .args in
+    let loop = c .before .before .before .before .before .loop in
+    let test = c .before .before .before .before .loop-test in
+    let if1 = c .before .before .before .if1 in
+    let a = now (args .a) in
+    let b = now (args .b) in
+    (omega arith, omega arith, loop .inv .2 ∙ before-next a b (loop .i) (test .taken) (if1 .left) ∙ rw (le-ltb _ _ (le-of-eq (sym (c .if2 .left))), eq-eqb _ _ (c .if2 .left)))
 
 returns-3 : tie.Need-returns-3 Inv-loop μ-loop
-returns-3 c = sym (c .before .loop .inv .2 ∙ before-ended (now (c .before .before .args .a)) (now (c .before .before .args .b)) (c .before .loop .i) (c .loop-test .left))
+returns-3 c =
+    let loop = c .before .loop in
+    let args = c .before .before .args in
+    sym (loop .inv .2 ∙ before-ended (now (args .a)) (now (args .b)) (loop .i) (c .loop-test .left))
 
 pub before-bytes-spec : {M : Type 1} → statement M
 before-bytes-spec =

@@ -29,9 +29,12 @@ returns-2 c =
     let at = c .before .before .before .deciding in
     let x = c .before .before .big32-at in
     let y = c .before .big32-at2 in
-    deciding-before 4 (now (c .before .before .before .before .before .before .before .before .args .a)) (now (c .before .before .before .before .before .before .before .before .args .b))
-    (λ k. omega (arith, c .before .before .before .before .before .before .before .shared-slice-known .given k))
-    (λ k. omega (arith, c .before .before .before .before .before .before .shared-slice-known2 .given k)) _
+    let args = c .before .before .before .before .before .before .before .before .args in
+    let shared-slice-known = c .before .before .before .before .before .before .before .shared-slice-known in
+    let shared-slice-known2 = c .before .before .before .before .before .before .shared-slice-known2 in
+    deciding-before 4 (now (args .a)) (now (args .b))
+    (λ k. omega (arith, shared-slice-known .given k))
+    (λ k. omega (arith, shared-slice-known2 .given k)) _
     (at .result) (at .ensures) (x .result) (y .result) (x .ensures .0) (y .ensures .0)
     (omega arith) (omega arith) (c .if2 .taken)
 
@@ -40,11 +43,15 @@ returns-3 c =
     let at = c .before .before .before .deciding in
     let x = c .before .before .big32-at in
     let y = c .before .big32-at2 in
-    deciding-begun 4 (now (c .before .before .before .before .before .before .before .before .args .a)) (now (c .before .before .before .before .before .before .before .before .args .b))
-    (λ k. omega (arith, c .before .before .before .before .before .before .before .shared-slice-known .given k))
-    (λ k. omega (arith, c .before .before .before .before .before .before .shared-slice-known2 .given k)) _
+    let args = c .before .before .before .before .before .before .before .before .args in
+    let shared-slice-known = c .before .before .before .before .before .before .before .shared-slice-known in
+    let shared-slice-known2 = c .before .before .before .before .before .before .shared-slice-known2 in
+    let shorter = c .before .before .before .before .before .shorter in
+    deciding-begun 4 (now (args .a)) (now (args .b))
+    (λ k. omega (arith, shared-slice-known .given k))
+    (λ k. omega (arith, shared-slice-known2 .given k)) _
     (at .result) (at .ensures) (x .result) (y .result) (x .ensures .0) (y .ensures .0)
-    (omega arith) (omega arith) (λ h. omega (arith, c .before .before .before .before .before .shorter .ensures .2 (omega arith))) (c .if2 .left)
+    (omega arith) (omega arith) (λ h. omega (arith, shorter .ensures .2 (omega arith))) (c .if2 .left)
 
 pub comes-before-spec : {M : Type 1} → statement M
 comes-before-spec = tie.close (tie.spec shorter-requires before-bytes-requires returns deciding-requires big32-at-requires big32-at-requires-2 returns-2 returns-3)

@@ -32,19 +32,25 @@ loop-less c = omega arith
 
 loop-again : tie.Need-loop-again Inv-loop μ-loop
 loop-again c =
-    let s = now (c .before .before .before .before .args .s) in
-    let b = c .before .before .before .before .args .b in
-    let i = c .before .before .before .loop .i in
-    let f = c .before .before .before .loop .found in (
+    let args = c .before .before .before .before .args in
+    let loop = c .before .before .before .loop in
+    let test = c .before .before .loop-test in
+    let s = now (args .s) in
+    let b = args .b in
+    let i = loop .i in
+    let f = loop .found in (
       omega arith,
       ⊎-elim
-          (λ w. seen-hit b s i f (c .before .before .loop-test .taken) (c .before .before .before .loop .inv .1) (w .0 .taken) ∙ rw (w .1))
-          (λ w. seen-miss b s i f (c .before .before .loop-test .taken) (c .before .before .before .loop .inv .1) (w .0 .left) ∙ rw (w .1))
+          (λ w. seen-hit b s i f (test .taken) (loop .inv .1) (w .0 .taken) ∙ rw (w .1))
+          (λ w. seen-miss b s i f (test .taken) (loop .inv .1) (w .0 .left) ∙ rw (w .1))
           (c .if1 .came),
     )
 
 returns : tie.Need-returns Inv-loop μ-loop
-returns c = seen-all (c .before .before .args .b) (now (c .before .before .args .s)) (c .before .loop .i) (c .before .loop .found) (c .loop-test .left) (c .before .loop .inv .1)
+returns c =
+    let args = c .before .before .args in
+    let loop = c .before .loop in
+    seen-all (args .b) (now (args .s)) (loop .i) (loop .found) (c .loop-test .left) (loop .inv .1)
 
 pub long-holds-spec : {M : Type 1} → statement M
 long-holds-spec =

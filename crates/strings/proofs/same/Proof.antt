@@ -8,7 +8,9 @@ use Rattle.strings.proofs.same.Statement.{statement}
 use Rattle.strings.proofs.same.Tie as tie
 
 returns : tie.Need-returns
-returns c = sym (differing (now (c .before .before .before .args .a)) (now (c .before .before .before .args .b)) (λ q. omega arith))
+returns c =
+    let args = c .before .before .before .args in
+    sym (differing (now (args .a)) (now (args .b)) (λ q. omega arith))
 
 same-sized-requires : tie.Need-same-sized-requires
 same-sized-requires c κs = search needs

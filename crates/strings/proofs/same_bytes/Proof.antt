@@ -27,9 +27,12 @@ shared-slice-read-if1-2 c = omega arith
 
 returns : tie.Need-returns Inv-loop μ-loop
 returns c =
-    let a = now (c .before .before .before .before .before .args .a) in
-    let b = now (c .before .before .before .before .before .args .b) in
-    sym (c .before .before .before .before .loop .inv .2 ∙ same-next a b (c .before .before .before .before .loop .i) (c .before .before .before .loop-test .taken) (omega arith) ∙ rw (ne-eqb _ _ (c .if1 .taken)))
+    let args = c .before .before .before .before .before .args in
+    let loop = c .before .before .before .before .loop in
+    let test = c .before .before .before .loop-test in
+    let a = now (args .a) in
+    let b = now (args .b) in
+    sym (loop .inv .2 ∙ same-next a b (loop .i) (test .taken) (omega arith) ∙ rw (ne-eqb _ _ (c .if1 .taken)))
 
 add-i : tie.Need-add-i Inv-loop μ-loop
 add-i c = omega arith
@@ -39,12 +42,18 @@ loop-less c = omega arith
 
 loop-again : tie.Need-loop-again Inv-loop μ-loop
 loop-again c =
-    let a = now (c .before .before .before .before .before .args .a) in
-    let b = now (c .before .before .before .before .before .args .b) in
-    (omega arith, c .before .before .before .before .loop .inv .1, c .before .before .before .before .loop .inv .2 ∙ same-next a b (c .before .before .before .before .loop .i) (c .before .before .before .loop-test .taken) (omega arith) ∙ rw (eq-eqb _ _ (c .if1 .left)))
+    let args = c .before .before .before .before .before .args in
+    let loop = c .before .before .before .before .loop in
+    let test = c .before .before .before .loop-test in
+    let a = now (args .a) in
+    let b = now (args .b) in
+    (omega arith, loop .inv .1, loop .inv .2 ∙ same-next a b (loop .i) (test .taken) (omega arith) ∙ rw (eq-eqb _ _ (c .if1 .left)))
 
 returns-2 : tie.Need-returns-2 Inv-loop μ-loop
-returns-2 c = sym (c .before .loop .inv .2 ∙ same-end (now (c .before .before .args .a)) (now (c .before .before .args .b)) (c .before .loop .i) (c .loop-test .left) (omega arith))
+returns-2 c =
+    let loop = c .before .loop in
+    let args = c .before .before .args in
+    sym (loop .inv .2 ∙ same-end (now (args .a)) (now (args .b)) (loop .i) (c .loop-test .left) (omega arith))
 
 pub same-bytes-spec : {M : Type 1} → statement M
 same-bytes-spec =

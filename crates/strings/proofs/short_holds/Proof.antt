@@ -41,7 +41,10 @@ loop-again c =
     (omega arith, seen-miss (a .b) (now (a .s)) (l .i) false (c .before .before .loop-test .taken) (l .inv .1) (c .if1 .left))
 
 returns-2 : tie.Need-returns-2 Inv-loop μ-loop
-returns-2 c = let a = c .before .before .args in seen-all (a .b) (now (a .s)) (c .before .loop .i) false (c .loop-test .left) (c .before .loop .inv .1)
+returns-2 c =
+    let a = c .before .before .args in
+    let loop = c .before .loop in
+    seen-all (a .b) (now (a .s)) (loop .i) false (c .loop-test .left) (loop .inv .1)
 
 pub short-holds-spec : {M : Type 1} → statement M
 short-holds-spec =

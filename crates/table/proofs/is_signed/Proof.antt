@@ -28,7 +28,10 @@ u16-at-requires c κs = search needs
 
 returns-2 : tie.Need-returns-2
 unfolding ascii
-returns-2 c = ap (λ (x : ℕ). eqb x 0) (c .u16-at .ensures .0) ∙ rw (sym (c .before .before .same .ensures) ∙ not-false _ (c .before .if1 .left))
+returns-2 c =
+    let same = c .before .before .same in
+    let if1 = c .before .if1 in
+    ap (λ (x : ℕ). eqb x 0) (c .u16-at .ensures .0) ∙ rw (sym (same .ensures) ∙ not-false _ (if1 .left))
 
 pub is-signed-spec : {M : Type 1} → statement M
 is-signed-spec =

@@ -26,7 +26,9 @@ loop-holds c =
     (refl, omega arith, rule5-start (entriesTree (a .c) (now (a .nodes)) (now (a .entries)) (now (a .text))))
 
 bad-in-node-requires : tie.Need-bad-in-node-requires Inv-loop μ-loop
-bad-in-node-requires c κs = (c .before .before .before .before .before .pre .0, omega arith, c .before .before .before .before .before .pre .1)
+bad-in-node-requires c κs =
+    let pre = c .before .before .before .before .before .pre in
+    (pre .0, omega arith, pre .1)
 
 enum-known-found : tie.Need-enum-known-found Inv-loop μ-loop
 enum-known-found c = omega arith
@@ -35,10 +37,13 @@ returns : tie.Need-returns Inv-loop μ-loop
 returns c =
     let a = c .before .before .before .before .before .before .before .before .before .args in
     let l = c .before .before .before .before .before .loop in
+    let found = c .before .found in
+    let bad-in-node = c .before .before .before .bad-in-node in
+    let pre = c .before .before .before .before .before .before .before .before .before .pre in
     let t = entriesTree (a .c) (now (a .nodes)) (now (a .entries)) (now (a .text)) in
-    let g = c .before .found .given in
-    let r = search-at (badOf t (l .n)) (g .0 .0) (sym (c .before .before .before .bad-in-node .ensures) ∙ g .1) in
-    sym (ap searchOf (rule5-here t (c .before .before .before .before .before .before .before .before .before .pre .0 .directories-hold) (l .n) (g .0 .0) (omega arith) (l .inv .2) r))
+    let g = found .given in
+    let r = search-at (badOf t (l .n)) (g .0 .0) (sym (bad-in-node .ensures) ∙ g .1) in
+    sym (ap searchOf (rule5-here t (pre .0 .directories-hold) (l .n) (g .0 .0) (omega arith) (l .inv .2) r))
 
 enum-told : tie.Need-enum-told Inv-loop μ-loop
 enum-told c = omega arith
@@ -50,11 +55,15 @@ returns-2 : tie.Need-returns-2 Inv-loop μ-loop
 returns-2 c =
     let a = c .before .before .before .before .before .before .before .before .before .before .args in
     let l = c .before .before .before .before .before .before .loop in
-    let d = c .before .before .before .before .before .before .before .before .before .before .pre .0 .directories-hold in
+    let pre = c .before .before .before .before .before .before .before .before .before .before .pre in
+    let bad-in-node = c .before .before .before .before .bad-in-node in
+    let enum-told = c .before .before .enum-told in
+    let ends-entries = c .before .ends-entries in
+    let d = pre .0 .directories-hold in
     let t = entriesTree (a .c) (now (a .nodes)) (now (a .entries)) (now (a .text)) in
-    let r = search-nowhere (badOf t (l .n)) (sym (c .before .before .before .before .bad-in-node .ensures) ∙ c .before .before .enum-told .given .1) in
+    let r = search-nowhere (badOf t (l .n)) (sym (bad-in-node .ensures) ∙ enum-told .given .1) in
     let on = rule5-on t d (l .n) (omega arith) (l .inv .2) r in
-    let e = ends-counts (a .c) (now (a .nodes)) (now (a .entries)) (now (a .text)) d (l .n) (omega arith) (sym (c .before .ends-entries .ensures) ∙ c .if1 .taken) in
+    let e = ends-counts (a .c) (now (a .nodes)) (now (a .entries)) (now (a .text)) d (l .n) (omega arith) (sym (ends-entries .ensures) ∙ c .if1 .taken) in
     sym (ap searchOf (rule5-end t _ on e))
 
 add-n : tie.Need-add-n Inv-loop μ-loop
@@ -67,17 +76,21 @@ loop-again : tie.Need-loop-again Inv-loop μ-loop
 loop-again c =
     let a = c .before .before .before .before .before .before .before .before .before .before .args in
     let l = c .before .before .before .before .before .before .loop in
+    let bad-in-node = c .before .before .before .before .bad-in-node in
+    let enum-told = c .before .before .enum-told in
+    let pre = c .before .before .before .before .before .before .before .before .before .before .pre in
     let t = entriesTree (a .c) (now (a .nodes)) (now (a .entries)) (now (a .text)) in
-    let r = search-nowhere (badOf t (l .n)) (sym (c .before .before .before .before .bad-in-node .ensures) ∙ c .before .before .enum-told .given .1) in
-    (l .inv .0, omega arith, rule5-on t (c .before .before .before .before .before .before .before .before .before .before .pre .0 .directories-hold) (l .n) (omega arith) (l .inv .2) r)
+    let r = search-nowhere (badOf t (l .n)) (sym (bad-in-node .ensures) ∙ enum-told .given .1) in
+    (l .inv .0, omega arith, rule5-on t (pre .0 .directories-hold) (l .n) (omega arith) (l .inv .2) r)
 
 returns-3 : tie.Need-returns-3 Inv-loop μ-loop
 returns-3 c =
     let a = c .before .before .before .before .before .args in
     let l = c .before .loop in
+    let pre = c .before .before .before .before .before .pre in
     let t = entriesTree (a .c) (now (a .nodes)) (now (a .entries)) (now (a .text)) in
     let n : l .n ≡ t .nodes = omega arith in
-    sym (ap searchOf (rule5-end t (l .n) (l .inv .2) (ap (countsBefore t) n ∙ c .before .before .before .before .before .pre .0 .directories-hold .counts-sum)))
+    sym (ap searchOf (rule5-end t (l .n) (l .inv .2) (ap (countsBefore t) n ∙ pre .0 .directories-hold .counts-sum)))
 
 pub bad-entry-spec : {M : Type 1} → statement M
 bad-entry-spec =

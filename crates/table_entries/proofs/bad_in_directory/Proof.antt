@@ -46,11 +46,12 @@ add-end c = omega arith
 
 loop-holds : tie.Need-loop-holds Inv-loop μ-loop
 loop-holds c =
+    let node-first = c .before .node-first in
     let a = c .before .before .before .before .before .args in
     let t = entriesTree (a .c) (now (a .nodes)) (now (a .entries)) (now (a .text)) in
-    let f = c .before .node-first .ensures .0 in
+    let f = node-first .ensures .0 in
     let m = c .node-count .ensures .0 in
-    let k : c .before .node-first .result + c .node-count .result - c .before .node-first .result ≡ t .count (a .n) = omega arith in
+    let k : node-first .result + c .node-count .result - node-first .result ≡ t .count (a .n) = omega arith in
     (f, omega arith, omega arith, omega arith, (λ l. absurd (lt-irrefl _ l)), sym (ap₂ (badIn t) f k))
 
 entry-holds-requires : tie.Need-entry-holds-requires Inv-loop μ-loop
@@ -77,11 +78,13 @@ loop-again : tie.Need-loop-again Inv-loop μ-loop
 loop-again c =
     let a = c .before .before .before .before .before .before .before .before .before .args in
     let l = c .before .before .before .loop in
+    let entry-holds = c .before .entry-holds in
+    let test = c .before .before .loop-test in
     let i = l .inv in
     let t = entriesTree (a .c) (now (a .nodes)) (now (a .entries)) (now (a .text)) in
     let at : l .e ≡ l .e + 1 - 1 = omega arith in
-    let h = entry-name t (l .e) (sym (c .before .entry-holds .ensures) ∙ not-false _ (c .if1 .left)) in
-    let on = find-on (λ k. not (entryHolds t k)) (l .e) _ (c .before .before .loop-test .taken) (ap not (sym (c .before .entry-holds .ensures)) ∙ c .if1 .left) in
+    let h = entry-name t (l .e) (sym (entry-holds .ensures) ∙ not-false _ (c .if1 .left)) in
+    let on = find-on (λ k. not (entryHolds t k)) (l .e) _ (test .taken) (ap not (sym (entry-holds .ensures)) ∙ c .if1 .left) in
     (i .0, i .1, omega arith, omega arith, (λ _. subst (λ (k : ℕ). nameHolds t k ≡ true) at h), i .5 ∙ on)
 
 returns-2 : tie.Need-returns-2 Inv-loop μ-loop

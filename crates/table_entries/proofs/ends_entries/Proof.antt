@@ -32,8 +32,12 @@ returns-2 : tie.Need-returns-2
 unfolding endsEntries
 returns-2 c =
     let a = c .before .before .before .before .before .before .args in
-    ap (λ (k : ℕ). eqb k (a .c .entries)) (ap₂ _+_ (c .before .before .node-first .ensures .0) (c .before .node-count .ensures .0))
-    ∙ rw (eq-eqb (kindIn (now (a .nodes)) (a .n)) 1 (sym (c .before .before .before .before .node-kind .ensures .0) ∙ c .before .before .before .if1 .left))
+    let node-first = c .before .before .node-first in
+    let node-count = c .before .node-count in
+    let node-kind = c .before .before .before .before .node-kind in
+    let if1 = c .before .before .before .if1 in
+    ap (λ (k : ℕ). eqb k (a .c .entries)) (ap₂ _+_ (node-first .ensures .0) (node-count .ensures .0))
+    ∙ rw (eq-eqb (kindIn (now (a .nodes)) (a .n)) 1 (sym (node-kind .ensures .0) ∙ if1 .left))
 
 pub ends-entries-spec : {M : Type 1} → statement M
 ends-entries-spec =

@@ -31,7 +31,10 @@ returns-2 : tie.Need-returns-2
 unfolding ascendsFrom
 returns-2 c =
     let a = c .before .before .before .before .before .before .args in
-    c .comes-before .ensures ∙ ap₂ before (c .before .before .name .ensures) (c .before .name2 .ensures) ∙ rw (lt-ltb (a .first) (a .e) (c .before .before .before .if1 .left))
+    let name = c .before .before .name in
+    let name2 = c .before .name2 in
+    let if1 = c .before .before .before .if1 in
+    c .comes-before .ensures ∙ ap₂ before (name .ensures) (name2 .ensures) ∙ rw (lt-ltb (a .first) (a .e) (if1 .left))
 
 pub entry-ascends-spec : {M : Type 1} → statement M
 entry-ascends-spec =

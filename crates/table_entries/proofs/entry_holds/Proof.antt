@@ -44,19 +44,22 @@ unfolding nameHolds
 entry-ascends-requires c κs =
     let a = c .before .before .before .before .before .before .before .before .args in
     let p = c .before .before .before .before .before .before .before .before .pre in
+    let name-holds = c .before .before .before .before .name-holds in
+    let if1 = c .before .before .before .if1 in
     let t = entriesTree (a .c) (now (a .nodes)) (now (a .entries)) (now (a .text)) in
     let h = held-inside t (p .0 .directories-hold) (a .n) (a .e) (p .1) in
     let name = named (a .c) (now (a .nodes)) (now (a .entries)) (now (a .text)) in
     let r = p .0 .entry-records in
-    (name (a .e) r h (sym (c .before .before .before .before .name-holds .ensures) ∙ not-false _ (c .before .before .before .if1 .left)), λ l. name _ r (omega arith) (p .3 l))
+    (name (a .e) r h (sym (name-holds .ensures) ∙ not-false _ (if1 .left)), λ l. name _ r (omega arith) (p .3 l))
 
 returns-3 : tie.Need-returns-3
 returns-3 c =
     let a = c .before .before .before .before .before .before .before .before .before .before .args in
     let p = c .before .before .before .before .before .before .before .before .before .before .pre in
+    let entry-ascends = c .before .entry-ascends in
     let t = entriesTree (a .c) (now (a .nodes)) (now (a .entries)) (now (a .text)) in
     let order = ascends-from (a .c) (now (a .nodes)) (now (a .entries)) (now (a .text)) (p .0 .directories-hold) (a .n) (a .first) (a .e) (p .1) (p .2) in
-    sym (bad-order t (a .e) (sym order ∙ sym (c .before .entry-ascends .ensures) ∙ not-true _ (c .if3 .taken)))
+    sym (bad-order t (a .e) (sym order ∙ sym (entry-ascends .ensures) ∙ not-true _ (c .if3 .taken)))
 
 stands-in-parent-requires : tie.Need-stands-in-parent-requires
 stands-in-parent-requires c κs =
@@ -74,10 +77,14 @@ unfolding nameHolds standsInParent holds isDirectory
 returns-4 c =
     let a = c .before .before .before .before .before .before .before .before .before .before .before .args in
     let p = c .before .before .before .before .before .before .before .before .before .before .before .pre in
+    let name-holds = c .before .before .before .before .before .before .before .name-holds in
+    let if1 = c .before .before .before .before .before .before .if1 in
+    let entry-ascends = c .before .before .entry-ascends in
+    let if3 = c .before .if3 in
     let t = entriesTree (a .c) (now (a .nodes)) (now (a .entries)) (now (a .text)) in
     let order = ascends-from (a .c) (now (a .nodes)) (now (a .entries)) (now (a .text)) (p .0 .directories-hold) (a .n) (a .first) (a .e) (p .1) (p .2) in
-    let name = sym (c .before .before .before .before .before .before .before .name-holds .ensures) ∙ not-false _ (c .before .before .before .before .before .before .if1 .left) in
-    let ascends = sym order ∙ sym (c .before .before .entry-ascends .ensures) ∙ not-false _ (c .before .if3 .left) in
+    let name = sym (name-holds .ensures) ∙ not-false _ (if1 .left) in
+    let ascends = sym order ∙ sym (entry-ascends .ensures) ∙ not-false _ (if3 .left) in
     c .stands-in-parent .ensures ∙ sym (entry-stands t (a .e) name (omega arith) ascends)
 
 pub entry-holds-spec : {M : Type 1} → statement M

@@ -1,5 +1,4 @@
 -- `table_entries::first_bad_entry` meets its contract. Assumes nothing.
-use borrow.Author.Needs.{needs}
 use mathlib.Core.Option.{none}
 use mathlib.Core.Path.{_≡_, ap, sym}
 use denote.Ref.{now}
@@ -17,14 +16,14 @@ returns c =
     let r : rule5 (entriesTree (a .c) (now (a .nodes)) (now (a .entries)) (now (a .text))) ≡ none = rw (c .if1 .taken) in
     sym (ap searchOf r)
 
-text-clean-requires : tie.Need-text-clean-requires
-text-clean-requires c κs = search needs
+sure-names-requires : tie.Need-sure-names-requires
+sure-names-requires c κs = c .before .before .before .before .before .pre .entry-records
 
 bad-entry-requires : tie.Need-bad-entry-requires
-bad-entry-requires c κs = (c .before .before .before .before .before .before .pre, c .text-clean .ensures)
+bad-entry-requires c κs = (c .before .before .before .before .before .before .pre, c .sure-names .ensures)
 
 returns-2 : tie.Need-returns-2
 returns-2 c = c .bad-entry .ensures
 
 pub first-bad-entry-spec : {M : Type 1} → statement M
-first-bad-entry-spec = tie.close (tie.spec returns text-clean-requires bad-entry-requires returns-2)
+first-bad-entry-spec = tie.close (tie.spec returns sure-names-requires bad-entry-requires returns-2)

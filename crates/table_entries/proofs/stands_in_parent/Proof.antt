@@ -35,25 +35,27 @@ node-parent-requires c κs = search needs
 
 returns-2 : tie.Need-returns-2
 returns-2 c =
+    let entry-node = c .before .before .before .before .entry-node in
     let a = c .before .before .before .before .before .before .before .args in
     let p = c .before .before .before .before .before .before .before .pre in
     let t = entriesTree (a .c) (now (a .nodes)) (now (a .entries)) [] in
     let x = t .entryNode (a .e) in
-    let k = c .before .before .before .node-kind .ensures .0 ∙ ap (t .kind) (c .before .before .before .before .entry-node .ensures .0) in
-    let up = c .before .node-parent .ensures .0 ∙ ap (t .parent) (c .before .before .before .before .entry-node .ensures .0) in
+    let k = c .before .before .before .node-kind .ensures .0 ∙ ap (t .kind) (entry-node .ensures .0) in
+    let up = c .before .node-parent .ensures .0 ∙ ap (t .parent) (entry-node .ensures .0) in
     let d = is-directory t x (p .2) (sym k ∙ c .before .before .if1 .left) in
     sym (directory-stands t (p .0 .directories-hold) (a .n) (a .e) (p .1) d ∙ rw (ne-eqb (t .parent x) (a .n) (λ e. c .if2 .taken (up ∙ e))))
 
 returns-3 : tie.Need-returns-3
 returns-3 c =
+    let entry-node = c .before .before .before .before .entry-node in
     let a = c .before .before .before .before .before .before .before .args in
     let p = c .before .before .before .before .before .before .before .pre in
     let t = entriesTree (a .c) (now (a .nodes)) (now (a .entries)) [] in
     let x = t .entryNode (a .e) in
-    let k = c .before .before .before .node-kind .ensures .0 ∙ ap (t .kind) (c .before .before .before .before .entry-node .ensures .0) in
-    let up = c .before .node-parent .ensures .0 ∙ ap (t .parent) (c .before .before .before .before .entry-node .ensures .0) in
+    let k = c .before .before .before .node-kind .ensures .0 ∙ ap (t .kind) (entry-node .ensures .0) in
+    let up = c .before .node-parent .ensures .0 ∙ ap (t .parent) (entry-node .ensures .0) in
     let d = is-directory t x (p .2) (sym k ∙ c .before .before .if1 .left) in
-    ap₂ ltb up (c .before .before .before .before .entry-node .ensures .0)
+    ap₂ ltb up (entry-node .ensures .0)
     ∙ sym (directory-stands t (p .0 .directories-hold) (a .n) (a .e) (p .1) d ∙ rw (eq-eqb (t .parent x) (a .n) (sym up ∙ c .if2 .left)))
 
 pub stands-in-parent-spec : {M : Type 1} → statement M

@@ -6,8 +6,8 @@ use native.Mathlib.Omega.{arith}
 use denote.Ref.{now}
 use Rattle.model.specs.Bytes.{find}
 use Rattle.model.specs.TableCheck.{sharesPoint}
-use Rattle.table_leads.specs.Leads.{foundOr}
-use Rattle.table_leads.proofs.FoundLaws.{found-here, found-on, found-done}
+use Rattle.parts.specs.Searches.{foundOr}
+use Rattle.parts.proofs.FoundLaws.{found-here, found-on, found-done}
 use Rattle.table_mounts.specs.Clashes.{uncounted, firstClash}
 use Rattle.table_mounts.proofs.first_clash_of_few.Statement.{statement}
 use Rattle.table_mounts.proofs.first_clash_of_few.Tie as tie

@@ -7,8 +7,8 @@ use native.Mathlib.Omega.{arith}
 use denote.Ref.{now}
 use Rattle.model.specs.Bytes.{find}
 use Rattle.model.specs.TableCheck.{sharesPoint}
-use Rattle.table_leads.specs.Leads.{foundOr}
-use Rattle.table_leads.proofs.FoundLaws.{found-here, found-on, found-done}
+use Rattle.parts.specs.Searches.{foundOr}
+use Rattle.parts.proofs.FoundLaws.{found-here, found-on, found-done}
 use Rattle.table_mounts.specs.Clashes.{uncounted, firstClash, Noted}
 use lib.ListN.{length, length-replicate}
 use Rattle.table_mounts.proofs.ClashLaws.{noted-none}

@@ -16,7 +16,9 @@ returns : tie.Need-returns
 unfolding directoryCount
 returns c =
     let a = c .before .before .before .args in
-    (c .node-count .ensures .0 ∙ rw (eq-eqb (kindIn (now (a .nodes)) (a .n)) 1 (sym (c .before .before .before .pre .2) ∙ c .before .if1 .taken)), omega arith)
+    let pre = c .before .before .before .pre in
+    let if1 = c .before .if1 in
+    (c .node-count .ensures .0 ∙ rw (eq-eqb (kindIn (now (a .nodes)) (a .n)) 1 (sym (pre .2) ∙ if1 .taken)), omega arith)
 
 returns-2 : tie.Need-returns-2
 unfolding directoryCount

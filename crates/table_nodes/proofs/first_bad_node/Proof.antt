@@ -17,20 +17,21 @@ use Rattle.table_nodes.proofs.first_bad_node.Statement.{statement}
 use Rattle.table_nodes.proofs.first_bad_node.Tie as tie
 
 abbrev Inv-loop : tie.InvT-loop
-Inv-loop nodes text c clean end sum₀ n₀ sum n =
+Inv-loop nodes text c sure end sum₀ n₀ sum n =
     (end ≡ c .nodes) × (n ≤ end) × (sum ≡ countsBefore (nodesTree c nodes text) n) × (sum ≤ n * 4294967296)
     × (firstFailing (nodeHolds (nodesTree c nodes text)) (c .nodes) ≡ find (λ k. not (nodeHolds (nodesTree c nodes text) k)) n (end - n))
 
 abbrev μ-loop : tie.MeasureT-loop
-μ-loop nodes text c clean end sum₀ n₀ sum n = end - n
+μ-loop nodes text c sure end sum₀ n₀ sum n = end - n
 
-text-clean-requires : tie.Need-text-clean-requires Inv-loop μ-loop
-text-clean-requires c κs = tt
+sure-bodies-requires : tie.Need-sure-bodies-requires Inv-loop μ-loop
+sure-bodies-requires c κs = c .before .before .pre
 
 loop-holds : tie.Need-loop-holds Inv-loop μ-loop
 unfolding firstFailing countsBefore sumBelow
 loop-holds c =
-    let e : c .before .before .before .args .c .nodes - 0 ≡ c .before .before .before .args .c .nodes = omega arith in
+    let args = c .before .before .before .args in
+    let e : args .c .nodes - 0 ≡ args .c .nodes = omega arith in
     (refl, omega arith, refl, omega arith, rw e)
 
 node-kind-requires : tie.Need-node-kind-requires Inv-loop μ-loop
@@ -38,20 +39,28 @@ node-kind-requires c κs = omega arith
 
 node-holds-requires : tie.Need-node-holds-requires Inv-loop μ-loop
 node-holds-requires c κs =
-    (c .before .before .before .before .before .before .pre, omega arith, c .node-kind .ensures .0, c .before .before .loop .inv .2, c .before .before .before .text-clean .ensures)
+    let pre = c .before .before .before .before .before .before .pre in
+    let loop = c .before .before .loop in
+    let sure-bodies = c .before .before .before .sure-bodies in
+    (pre, omega arith, c .node-kind .ensures .0, loop .inv .2, sure-bodies .ensures)
 
 returns : tie.Need-returns Inv-loop μ-loop
 unfolding rule4
 returns c =
     let a = c .before .before .before .before .before .before .before .before .args in
     let l = c .before .before .before .before .loop in
+    let test = c .before .before .before .loop-test in
+    let node-holds = c .before .node-holds in
     let t = nodesTree (a .c) (now (a .nodes)) (now (a .text)) in
-    let f = find-here (λ k. not (nodeHolds t k)) (l .n) _ (c .before .before .before .loop-test .taken) (ap not (sym (c .before .node-holds .ensures)) ∙ c .if1 .taken) in
+    let f = find-here (λ k. not (nodeHolds t k)) (l .n) _ (test .taken) (ap not (sym (node-holds .ensures)) ∙ c .if1 .taken) in
     let r : rule4 t ≡ some (l .n) = rw (l .inv .4 ∙ f) in
     sym (ap searchOf r)
 
 directory-count-requires : tie.Need-directory-count-requires Inv-loop μ-loop
-directory-count-requires c κs = (c .before .before .before .before .before .before .before .before .pre, omega arith, c .before .before .node-kind .ensures .0)
+directory-count-requires c κs =
+    let pre = c .before .before .before .before .before .before .before .before .pre in
+    let node-kind = c .before .before .node-kind in
+    (pre, omega arith, node-kind .ensures .0)
 
 add-sum : tie.Need-add-sum Inv-loop μ-loop
 add-sum c = omega arith
@@ -67,8 +76,11 @@ unfolding countsBefore sumBelow directoryCount
 loop-again c =
     let a = c .before .before .before .before .before .before .before .before .before .args in
     let l = c .before .before .before .before .before .loop in
+    let test = c .before .before .before .before .loop-test in
+    let node-holds = c .before .before .node-holds in
+    let if1 = c .before .if1 in
     let t = nodesTree (a .c) (now (a .nodes)) (now (a .text)) in
-    let f = find-on (λ k. not (nodeHolds t k)) (l .n) _ (c .before .before .before .before .loop-test .taken) (ap not (sym (c .before .before .node-holds .ensures)) ∙ c .before .if1 .left) in
+    let f = find-on (λ k. not (nodeHolds t k)) (l .n) _ (test .taken) (ap not (sym (node-holds .ensures)) ∙ if1 .left) in
     (l .inv .0, omega arith, rw (add-one (l .n)) (ap₂ _+_ (l .inv .2) (c .directory-count .ensures .0)), omega arith, l .inv .4 ∙ f)
 
 returns-2 : tie.Need-returns-2 Inv-loop μ-loop
@@ -101,7 +113,7 @@ first-bad-node-spec =
     (tie.spec
     Inv-loop
     μ-loop
-    text-clean-requires
+    sure-bodies-requires
     loop-holds
     node-kind-requires
     node-holds-requires

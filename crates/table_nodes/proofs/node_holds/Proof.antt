@@ -16,7 +16,7 @@ file-holds-requires : tie.Need-file-holds-requires
 file-holds-requires c κs = search needs
 
 symlink-holds-requires : tie.Need-symlink-holds-requires
-symlink-holds-requires c κs = let p = c .before .before .before .pre in (p .0, p .1, p .4)
+symlink-holds-requires c κs = let p = c .before .before .before .pre in (p .0, p .1, sym (p .2) ∙ c .match .keys3, p .4)
 
 magic-holds-requires : tie.Need-magic-holds-requires
 magic-holds-requires c κs = search needs
@@ -41,9 +41,10 @@ returns-5 : tie.Need-returns-5
 unfolding nodeHolds
 returns-5 c =
     let a = c .before .before .before .args in
+    let pre = c .before .before .before .pre in
     let k = kindIn (now (a .nodes)) (a .n) in
     let r = c .match .rest in
-    let e = c .before .before .before .pre .2 in
+    let e = pre .2 in
     simp (ne-eqb k 1 (λ f. r .0 .0 .0 .1 (e ∙ f)), ne-eqb k 2 (λ f. r .0 .0 .1 (e ∙ f)), ne-eqb k 3 (λ f. r .0 .1 (e ∙ f)), ne-eqb k 4 (λ f. r .1 (e ∙ f)))
 
 pub node-holds-spec : {M : Type 1} → statement M

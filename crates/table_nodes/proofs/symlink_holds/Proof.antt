@@ -11,7 +11,7 @@ use Rattle.model.specs.Bytes.{contains}
 use Rattle.model.specs.Tree.{parentIn, firstIn, countIn}
 use Rattle.model.specs.TableCheck.{symlinkHolds}
 use Rattle.parts.specs.Parts.{nodesTree}
-use Rattle.table_nodes.proofs.BodyLaws.{body-test, body-clean}
+use Rattle.table_nodes.proofs.BodyLaws.{body-test, sure-body}
 use Rattle.table_nodes.proofs.symlink_holds.Statement.{statement}
 use Rattle.table_nodes.proofs.symlink_holds.Tie as tie
 
@@ -55,9 +55,12 @@ returns-4 c =
 returns-5 : tie.Need-returns-5
 returns-5 c =
     let a = c .before .before .before .before .before .before .before .before .before .before .args in
+    let p = c .before .before .before .before .before .before .before .before .before .before .pre in
+    let node-parent = c .before .before .before .before .before .before .node-parent in
+    let if1 = c .before .before .before .before .before .if1 in
     let t = nodesTree (a .c) (now (a .nodes)) (now (a .text)) in
-    let top = sym (c .before .before .before .before .before .before .node-parent .ensures .0) ∙ c .before .before .before .before .before .if1 .left in
-    let clean = body-clean (a .c) (now (a .text)) _ _ (sym (c .before .before .before .before .before .before .before .before .before .before .pre .2) ∙ c .if5 .taken) in
+    let top = sym (node-parent .ensures .0) ∙ if1 .left in
+    let clean = sure-body (a .c) (now (a .nodes)) (now (a .text)) (a .n) (omega (arith, p .3)) (p .2) (omega arith) in
     sym (body-test t (a .n) top (omega arith) (omega arith) (omega arith) ∙ ap not clean)
 
 body-requires : tie.Need-body-requires
@@ -69,9 +72,12 @@ holds-byte-requires c κs = search needs
 returns-6 : tie.Need-returns-6
 returns-6 c =
     let a = c .before .before .before .before .before .before .before .before .before .before .before .before .args in
+    let node-parent = c .before .before .before .before .before .before .before .before .node-parent in
+    let if1 = c .before .before .before .before .before .before .before .if1 in
+    let body = c .before .body in
     let t = nodesTree (a .c) (now (a .nodes)) (now (a .text)) in
-    let top = sym (c .before .before .before .before .before .before .before .before .node-parent .ensures .0) ∙ c .before .before .before .before .before .before .before .if1 .left in
-    ap not (c .holds-byte .ensures ∙ ap (contains 0) (c .before .body .ensures))
+    let top = sym (node-parent .ensures .0) ∙ if1 .left in
+    ap not (c .holds-byte .ensures ∙ ap (contains 0) (body .ensures))
     ∙ sym (body-test t (a .n) top (omega arith) (omega arith) (omega arith))
 
 pub symlink-holds-spec : {M : Type 1} → statement M

@@ -7,8 +7,9 @@ use native.Mathlib.Omega.{arith}
 use denote.Ref.{now}
 use Rattle.model.specs.Bytes.{find}
 use Rattle.parts.specs.Parts.{mountsTree}
-use Rattle.table_leads.specs.Leads.{linkLead, settled, foundOr}
-use Rattle.table_leads.proofs.FoundLaws.{found-here, found-on, found-done}
+use Rattle.parts.specs.Searches.{foundOr}
+use Rattle.table_leads.specs.Leads.{linkLead, settled}
+use Rattle.parts.proofs.FoundLaws.{found-here, found-on, found-done}
 use Rattle.table_targets.specs.Targets.{firstUnsettled}
 use Rattle.table_targets.proofs.first_unsettled.Statement.{statement}
 use Rattle.table_targets.proofs.first_unsettled.Tie as tie
@@ -55,7 +56,8 @@ loop-again c =
     let is-settled = c .before .is-settled in
     let link-lead = c .before .before .link-lead in
     let t = mountsTree (a .c) (now (a .nodes)) [] in
-    (refl, omega arith, l .inv .2 ∙ found-on (λ k. not (settled (linkLead t k))) (l .n) (a .c .nodes) (omega arith) (sym (ap not (is-settled .ensures ∙ ap settled (link-lead .ensures))) ∙ c .if1 .left))
+    let kept = sym (ap not (is-settled .ensures ∙ ap settled (link-lead .ensures))) ∙ c .if1 .left in
+    (refl, omega arith, l .inv .2 ∙ found-on (λ k. not (settled (linkLead t k))) (l .n) (a .c .nodes) (omega arith) kept)
 
 returns-2 : tie.Need-returns-2 Inv-loop μ-loop
 returns-2 c =

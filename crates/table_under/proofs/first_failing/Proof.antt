@@ -42,8 +42,9 @@ loop-again : tie.Need-loop-again Inv-loop μ-loop
 loop-again c =
     let a = c .before .before .before .before .before .before .before .before .args in
     let l = c .before .before .before .loop in
+    let record-keeps = c .before .record-keeps in
     let t = mountsTree (a .c) (now (a .nodes)) (now (a .mounts)) in
-    (omega arith, l .inv .1 ∙ broken-on (a .links) t (l .k) (a .end) (omega arith) (ap not (sym (c .before .record-keeps .ensures)) ∙ c .if1 .left))
+    (omega arith, l .inv .1 ∙ broken-on (a .links) t (l .k) (a .end) (omega arith) (ap not (sym (record-keeps .ensures)) ∙ c .if1 .left))
 
 returns-2 : tie.Need-returns-2 Inv-loop μ-loop
 returns-2 c =

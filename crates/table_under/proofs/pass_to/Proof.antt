@@ -74,7 +74,8 @@ returns-2 c =
     let above = c .before .before .before .before .before .before .before .wide2 in
     let copy-row = c .before .before .before .before .before .before .copy-row in
     let if1 = c .before .before .before .before .before .before .before .before .before .if1 in
-    pass-root _ _ _ _ (above .ensures .0 ∙ row-above .ensures) (wide .ensures .0) (if1 .left) (copy-row .ensures) (c .before .before .set-bit .ensures)
+    let set-bit = c .before .before .set-bit in
+    pass-root _ _ _ _ (above .ensures .0 ∙ row-above .ensures) (wide .ensures .0) (if1 .left) (copy-row .ensures) (set-bit .ensures)
 
 pub pass-to-spec : {M : Type 1} → statement M
 pass-to-spec =

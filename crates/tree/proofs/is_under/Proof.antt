@@ -53,7 +53,9 @@ loop-again c =
     let loop = c .before .before .before .loop in
     let t = treeOf (now (args .image)) in (
       subst (λ (k : ℕ). isDirectory t k ≡ true) (sym (node-parent .ensures .0)) (parent-directory t (pre .1) (loop .k) (loop .inv .0)),
-      loop .inv .1 ∙ under-parent t (pre .1) (args .root) (loop .k) (loop .inv .0) ∙ rw (ne-eqb (loop .k) (args .root) (λ e. omega arith)) (ap (λ (k : ℕ). under t k (args .root)) (sym (node-parent .ensures .0))),
+      loop .inv .1
+          ∙ under-parent t (pre .1) (args .root) (loop .k) (loop .inv .0)
+          ∙ rw (ne-eqb (loop .k) (args .root) (λ e. omega arith)) (ap (λ (k : ℕ). under t k (args .root)) (sym (node-parent .ensures .0))),
     )
 
 returns-2 : tie.Need-returns-2 Inv-loop μ-loop

@@ -45,7 +45,8 @@ returns-2 c =
     let a2 = c .before .before .before .before .before .before .before .before .a2 in
     let errno-number = c .before .before .before .before .errno-number in
     let put62 = c .before .before .put62 in
-    put62 .ensures ∙ ap (λ n. n ∷ a2 .given .0 .0 .detail ∷ 0 ∷ 0 ∷ a2 .given .0 .0 .progress .components ∷ a2 .given .0 .0 .progress .links ∷ drop 6 (now (args .out))) (errno-number .ensures)
+    put62 .ensures
+    ∙ ap (λ n. n ∷ a2 .given .0 .0 .detail ∷ 0 ∷ 0 ∷ a2 .given .0 .0 .progress .components ∷ a2 .given .0 .0 .progress .links ∷ drop 6 (now (args .out))) (errno-number .ensures)
     ∙ ap (λ a. answerNumbers a ++ drop 6 (now (args .out))) (sym (a2 .given .1))
 
 pub put-answer-spec : {M : Type 1} → statement M

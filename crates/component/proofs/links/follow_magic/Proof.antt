@@ -66,13 +66,14 @@ returns-4 : tie.Need-returns-4
 unfolding magicLink forbidAny
 returns-4 c =
     let args = c .before .before .before .before .before .before .before .before .before .args in
-    let has′ = c .before .before .before .before .before .before .before .has in
+    let has3 = c .before .before .before .before .before .before .before .has in
     let if1 = c .before .before .before .before .before .before .if1 in
     let if2 = c .before .before .before .before .before .if2 in
     let has2 = c .before .before .before .before .has2 in
     let if3 = c .before .before .before .if3 in
     let node-first = c .before .before .node-first in
     let barred = c .before .barred in
+    let has′ = has3 in
     let t = treeOf (now (args .image)) in
     let k = args .k in
     let R = restrictionsFor k in
@@ -87,7 +88,7 @@ returns-5 : tie.Need-returns-5
 unfolding magicLink forbidAny
 returns-5 c =
     let args = c .before .before .before .before .before .before .before .before .before .before .before .args in
-    let has′ = c .before .before .before .before .before .before .before .before .before .has in
+    let has4 = c .before .before .before .before .before .before .before .before .before .has in
     let if1 = c .before .before .before .before .before .before .before .before .if1 in
     let if2 = c .before .before .before .before .before .before .before .if2 in
     let has2 = c .before .before .before .before .before .before .has2 in
@@ -96,6 +97,7 @@ returns-5 c =
     let barred = c .before .before .before .barred in
     let if4 = c .before .before .if4 in
     let has3 = c .before .has3 in
+    let has′ = has4 in
     let t = treeOf (now (args .image)) in
     let k = args .k in
     let R = restrictionsFor k in
@@ -110,7 +112,7 @@ returns-6 : tie.Need-returns-6
 unfolding magicLink forbidAny
 returns-6 c =
     let args = c .before .before .before .before .before .before .before .before .before .before .before .before .before .args in
-    let has′ = c .before .before .before .before .before .before .before .before .before .before .before .has in
+    let has5 = c .before .before .before .before .before .before .before .before .before .before .before .has in
     let if1 = c .before .before .before .before .before .before .before .before .before .before .if1 in
     let if2 = c .before .before .before .before .before .before .before .before .before .if2 in
     let has2 = c .before .before .before .before .before .before .before .before .has2 in
@@ -121,6 +123,7 @@ returns-6 c =
     let has3 = c .before .before .before .has3 in
     let if5 = c .before .before .if5 in
     let has4 = c .before .has4 in
+    let has′ = has5 in
     let t = treeOf (now (args .image)) in
     let k = args .k in
     let R = restrictionsFor k in
@@ -135,7 +138,7 @@ returns-7 : tie.Need-returns-7
 unfolding magicLink forbidAny
 returns-7 c =
     let args = c .before .before .before .before .before .before .before .before .before .before .before .before .before .before .args in
-    let has′ = c .before .before .before .before .before .before .before .before .before .before .before .before .has in
+    let has5 = c .before .before .before .before .before .before .before .before .before .before .before .before .has in
     let if1 = c .before .before .before .before .before .before .before .before .before .before .before .if1 in
     let if2 = c .before .before .before .before .before .before .before .before .before .before .if2 in
     let has2 = c .before .before .before .before .before .before .before .before .before .has2 in
@@ -147,6 +150,7 @@ returns-7 c =
     let if5 = c .before .before .before .if5 in
     let has4 = c .before .before .has4 in
     let if6 = c .before .if6 in
+    let has′ = has5 in
     let t = treeOf (now (args .image)) in
     let k = args .k in
     let R = restrictionsFor k in

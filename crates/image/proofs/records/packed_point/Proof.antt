@@ -22,11 +22,12 @@ u32-at-requires c κs = search needs
 returns : tie.Need-returns
 unfolding treeOf mountsPart
 returns c =
+    let mount-at = c .before .mount-at in
     let a = c .before .before .before .args in
     let s = now (a .image) in
-    let at = c .before .mount-at .ensures .0 in
+    let at = mount-at .ensures .0 in
     let count = 8 * sizesOf s .mounts in
-    let x = c .before .mount-at .result + 2 in
+    let x = mount-at .result + 2 in
     let both = c .u32-at .ensures .0 ∙ part-column 4 s (mountsAt (sizesOf s)) count (8 * a .m + 2) x (omega arith) (omega (arith, at)) in
     let parent = part-column 2 s (mountsAt (sizesOf s)) count (8 * a .m + 2) x (omega arith) (omega (arith, at)) in
     let small = field-lt 2 s x (λ i. omega (arith, c .before .before .shared-slice-known .given i)) in

@@ -11,7 +11,9 @@ use Rattle.parts.proofs.records.is_directory.Tie as tie
 
 returns : tie.Need-returns
 unfolding isDirectory
-returns c = rw (le-ltb (c .before .before .before .args .n) (c .before .before .before .args .c .nodes) (omega arith))
+returns c =
+    let args = c .before .before .before .args in
+    rw (le-ltb (args .n) (args .c .nodes) (omega arith))
 
 node-kind-requires : tie.Need-node-kind-requires
 node-kind-requires c κs = search needs

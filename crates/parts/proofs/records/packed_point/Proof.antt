@@ -20,9 +20,10 @@ u32-at-requires c κs = search needs
 returns : tie.Need-returns
 returns c =
     let a = c .before .before .args in
+    let shared-slice-known = c .before .shared-slice-known in
     let s = now (a .mounts) in
     let both = c .u32-at .ensures in
-    (both .0 ∙ field-pair s (8 * a .m) (8 * a .m) refl, field-lt 2 s (8 * a .m + 2) (λ i. omega (arith, c .before .shared-slice-known .given i)), both .1)
+    (both .0 ∙ field-pair s (8 * a .m) (8 * a .m) refl, field-lt 2 s (8 * a .m + 2) (λ i. omega (arith, shared-slice-known .given i)), both .1)
 
 pub packed-point-spec : {M : Type 1} → statement M
 packed-point-spec = tie.close (tie.spec mul-u32-at add-u32-at u32-at-requires returns)

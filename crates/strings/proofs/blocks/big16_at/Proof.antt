@@ -23,13 +23,22 @@ shared-slice-read-result-2 : tie.Need-shared-slice-read-result-2
 shared-slice-read-result-2 c = search needs
 
 cast-result-2 : tie.Need-cast-result-2
-cast-result-2 c = omega (arith, c .before .shared-slice-known .given (c .before .before .args .at), c .shared-slice-known2 .given (c .before .before .args .at + 1))
+cast-result-2 c =
+    let shared-slice-known = c .before .shared-slice-known in
+    let args = c .before .before .args in
+    omega (arith, shared-slice-known .given (args .at), c .shared-slice-known2 .given (args .at + 1))
 
 add-result-2 : tie.Need-add-result-2
-add-result-2 c = omega (arith, c .before .shared-slice-known .given (c .before .before .args .at), c .shared-slice-known2 .given (c .before .before .args .at + 1))
+add-result-2 c =
+    let shared-slice-known = c .before .shared-slice-known in
+    let args = c .before .before .args in
+    omega (arith, shared-slice-known .given (args .at), c .shared-slice-known2 .given (args .at + 1))
 
 returns : tie.Need-returns
-returns c = omega (arith, big-two (now (c .before .before .args .s)) (c .before .before .args .at), c .before .shared-slice-known .given (c .before .before .args .at), c .shared-slice-known2 .given (c .before .before .args .at + 1))
+returns c =
+    let args = c .before .before .args in
+    let shared-slice-known = c .before .shared-slice-known in
+    omega (arith, big-two (now (args .s)) (args .at), shared-slice-known .given (args .at), c .shared-slice-known2 .given (args .at + 1))
 
 pub big16-at-spec : {M : Type 1} → statement M
 big16-at-spec =

@@ -67,6 +67,8 @@ add-result-2 c = search needs
 returns-3 : tie.Need-returns-3
 returns-3 c =
     let second = c .before .before .before in
+    let u64-at5 = c .before .before .u64-at5 in
+    let u64-at6 = c .before .u64-at6 in
     let first = second .before .before .before in
     let args = first .before .before .before .before .before .args in
     let a = now (args .a) in
@@ -75,7 +77,7 @@ returns-3 c =
     sym
     (first-later 8 2 a b at (first .before .before .u64-at .ensures .0) (first .before .u64-at2 .ensures .0) (first .if1 .left) (at + 8) refl
     ∙ first-later 8 1 a b (at + 8) (second .before .before .u64-at3 .ensures .0) (second .before .u64-at4 .ensures .0) (second .if2 .left) (at + 16) (omega arith)
-    ∙ first-here 8 0 a b (at + 16) (c .before .before .u64-at5 .ensures .0) (c .before .u64-at6 .ensures .0) (c .if3 .taken))
+    ∙ first-here 8 0 a b (at + 16) (u64-at5 .ensures .0) (u64-at6 .ensures .0) (c .if3 .taken))
 
 add-result-3 : tie.Need-add-result-3
 add-result-3 c = search needs
@@ -84,6 +86,8 @@ returns-4 : tie.Need-returns-4
 unfolding firstDiffering
 returns-4 c =
     let second = c .before .before .before in
+    let u64-at5 = c .before .before .u64-at5 in
+    let u64-at6 = c .before .u64-at6 in
     let first = second .before .before .before in
     let args = first .before .before .before .before .before .args in
     let a = now (args .a) in
@@ -92,7 +96,7 @@ returns-4 c =
     sym
     (first-later 8 2 a b at (first .before .before .u64-at .ensures .0) (first .before .u64-at2 .ensures .0) (first .if1 .left) (at + 8) refl
     ∙ first-later 8 1 a b (at + 8) (second .before .before .u64-at3 .ensures .0) (second .before .u64-at4 .ensures .0) (second .if2 .left) (at + 16) (omega arith)
-    ∙ first-later 8 0 a b (at + 16) (c .before .before .u64-at5 .ensures .0) (c .before .u64-at6 .ensures .0) (c .if3 .left) (at + 24) (omega arith))
+    ∙ first-later 8 0 a b (at + 16) (u64-at5 .ensures .0) (u64-at6 .ensures .0) (c .if3 .left) (at + 24) (omega arith))
 
 pub eight-within-spec : {M : Type 1} → statement M
 eight-within-spec =

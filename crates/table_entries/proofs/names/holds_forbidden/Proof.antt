@@ -4,7 +4,9 @@ use Rattle.table_entries.proofs.names.holds_forbidden.Statement.{statem
 use Rattle.table_entries.proofs.names.holds_forbidden.Tie as tie
 
 returns : tie.Need-returns
-returns c = rw (c .before .before .pre (c .if1 .taken) .0, c .before .before .pre (c .if1 .taken) .1)
+returns c =
+    let pre = c .before .before .pre in
+    rw (pre (c .if1 .taken) .0, pre (c .if1 .taken) .1)
 
 short-holds-forbidden-requires : tie.Need-short-holds-forbidden-requires
 short-holds-forbidden-requires c κs = search needs

@@ -6,13 +6,13 @@ use mathlib.Core.Bool.{not, and-false}
 use mathlib.Core.List.{[]}
 use mathlib.Core.Path.{ap, _∙_, sym}
 use native.Mathlib.Omega.{arith}
-use borrow.Author.Tests.{le-leb, lt-leb}
+use borrow.Author.Tests.{le-leb, lt-leb, ltb-true}
 use lib.ListN.{length}
 use denote.Ref.{now}
 use Rattle.model.specs.Bytes.{contains}
 use Rattle.theorems.proofs.PartLaws.{part-whole}
 use Rattle.parts.specs.Parts.{entriesTree}
-use Rattle.table_entries.proofs.NameLaws.{forbids, dots, name-test, name-clean}
+use Rattle.table_entries.proofs.NameLaws.{forbids, dots, name-test, sure-name}
 use Rattle.table_entries.proofs.names.name_holds.Statement.{statement}
 use Rattle.table_entries.proofs.names.name_holds.Tie as tie
 
@@ -49,8 +49,9 @@ name-requires c κs = search needs
 holds-forbidden-requires : tie.Need-holds-forbidden-requires
 holds-forbidden-requires c κs = λ k.
     let a = c .before .before .before .before .before .before .before .before .args in
+    let p = c .before .before .before .before .before .before .before .before .pre in
     let n = c .name .ensures in
-    let h = name-clean (a .c) (now (a .text)) _ _ (sym (c .before .before .before .before .before .before .before .before .pre .2) ∙ k) in
+    let h = sure-name (a .c) (now (a .entries)) (now (a .text)) (a .e) (omega (arith, p .2, ltb-true (a .e) (a .sure) k)) (omega arith) in
     (ap (contains 0) n ∙ h .0, ap (contains 47) n ∙ h .1)
 
 returns-4 : tie.Need-returns-4
@@ -70,11 +71,14 @@ is-dots-requires c κs =
 returns-5 : tie.Need-returns-5
 returns-5 c =
     let a = c .before .before .before .before .before .before .before .before .before .before .before .args in
+    let name = c .before .before .before .name in
+    let holds-forbidden = c .before .before .holds-forbidden in
+    let if4 = c .before .if4 in
     let t = entriesTree (a .c) [] (now (a .entries)) (now (a .text)) in
     let at = t .nameOffset (a .e) in
     let l = t .nameLength (a .e) in
-    let good = ap forbids (sym (c .before .before .before .name .ensures)) ∙ sym (c .before .before .holds-forbidden .ensures) ∙ c .before .if4 .left in
-    ap not (c .is-dots .ensures ∙ ap dots (c .before .before .before .name .ensures))
+    let good = ap forbids (sym (name .ensures)) ∙ sym (holds-forbidden .ensures) ∙ if4 .left in
+    ap not (c .is-dots .ensures ∙ ap dots (name .ensures))
     ∙ sym (name-test t (a .e)
     ∙ rw (le-leb (at + l) (t .textLength) (omega arith), le-leb 1 l (omega arith), le-leb l 255 (omega arith), good))
 

@@ -38,12 +38,17 @@ loop-less c = omega arith
 
 loop-again : tie.Need-loop-again Inv-loop μ-loop
 loop-again c =
-    let s = now (c .before .before .before .before .before .before .args .s) in
+    let args = c .before .before .before .before .before .before .args in
     let l = c .before .before .before .before .loop in
-    (omega arith, forbids-miss s (l .i) (l .inv .1) (c .before .before .before .loop-test .taken) (sym (c .before .forbidden .ensures) ∙ c .if1 .left))
+    let test = c .before .before .before .loop-test in
+    let forbidden = c .before .forbidden in
+    let s = now (args .s) in
+    (omega arith, forbids-miss s (l .i) (l .inv .1) (test .taken) (sym (forbidden .ensures) ∙ c .if1 .left))
 
 returns-2 : tie.Need-returns-2 Inv-loop μ-loop
-returns-2 c = sym (forbids-none (now (c .before .before .before .args .s)) (c .before .loop .i) (c .before .loop .inv .1) (c .loop-test .left))
+returns-2 c =
+    let loop = c .before .loop in
+    sym (forbids-none (now (c .before .before .before .args .s)) (loop .i) (loop .inv .1) (c .loop-test .left))
 
 pub short-holds-forbidden-spec : {M : Type 1} → statement M
 short-holds-forbidden-spec =

@@ -34,8 +34,10 @@ returns-3 : tie.Need-returns-3
 unfolding seenClean
 returns-3 c =
     let a = c .before .before .before .before .before .before .args in
+    let holds-byte = c .before .before .holds-byte in
+    let if2 = c .before .if2 in
     ap not (c .holds-byte2 .ensures)
-    ∙ rw (le-leb (16 + length (now (a .text)) / 64) (a .c .entries) (omega arith), sym (c .before .before .holds-byte .ensures) ∙ c .before .if2 .left)
+    ∙ rw (le-leb (16 + length (now (a .text)) / 64) (a .c .entries) (omega arith), sym (holds-byte .ensures) ∙ if2 .left)
 
 pub text-clean-spec : {M : Type 1} → statement M
 text-clean-spec =

@@ -6,7 +6,7 @@ use mathlib.Core.Path.{_≡_, refl, sym, ap, _∙_, subst}
 use native.Mathlib.Omega.{arith}
 use Rattle.model.specs.Bytes.{find}
 use Rattle.theorems.proofs.ByteLaws.{find-none, find-some, find-here, find-on, find-done}
-use Rattle.table_leads.specs.Leads.{foundOr}
+use Rattle.parts.specs.Searches.{foundOr}
 
 -- one number at a time
 module _ (p : ℕ → Bool) (at end : ℕ) where
