@@ -89,6 +89,20 @@ def of_shared_names(byte, last=(0, 100)):
     return entry(t.mount(0).image(), 99, offset=last[0], length=last[1])
 
 
+def of_two_names(length, at, ascending):
+    """A top and a file with two names of one length, which differ in the byte at a position, and in the last one the other way round:
+    the lower one at that position is entry 0, or else entry 1."""
+    lower, higher = bytearray(b"n" * length), bytearray(b"n" * length)
+    lower[-1:], higher[-1:] = b"z", b"a"
+    lower[at : at + 1], higher[at : at + 1] = b"a", b"b"
+    t = Tree()
+    t.top()
+    f = t.file()
+    t.names[0] = {bytes(lower): (t.put(bytes(lower)), f), bytes(higher): (t.put(bytes(higher)), f)}
+    image = t.mount(0).image()
+    return image if ascending else entry(entry(image, 0, offset=length), 1, offset=0)
+
+
 def of_entries(number_of_entries):
     """32 directories of 128 names each, one byte long, for one file: nodes 0 to 31, and 32. The first entries beyond 4,096 go to
     the last directory."""
@@ -368,6 +382,13 @@ check("rule-5-right-parent-last", entry(LISTED, 3, node=3), ACCEPTED, "entry 3: 
 check("rule-5-top-first", entry(LISTED, 0, node=0), broken(5, 0), "entry 0: the top, in itself")
 check("rule-5-top-last", entry(entry(node(LISTED, 1, parent=1), 1, node=2), 3, node=1), broken(5, 3), "entry 3: node 1, a top, in itself")
 
+says("names strictly ascending bytewise within a directory")
+for length, at in [(33, 0), (33, 16), (33, 31), (64, 8), (64, 20), (64, 28), (64, 40), (200, 35), (200, 100), (200, 170), (255, 24), (255, 130), (255, 250)]:
+    shown = f"two names of {length} bytes that differ at byte {at}, and in the last the other way round"
+    check(f"rule-5-long-{length}-{at}", of_two_names(length, at, True), ACCEPTED, shown)
+    check(f"rule-5-long-{length}-{at}-exchanged", of_two_names(length, at, False), broken(5, 1), "the same, exchanged")
+
+says('name inside the text, 1 to 255 bytes, no zero byte or "/"')
 check("rule-5-shared", of_shared_names(47), ACCEPTED, "100 names of one text, none over the slash at its end")
 check("rule-5-shared-slash", of_shared_names(47, (1, 100)), broken(5, 99), "the same, the last over it")
 check("rule-5-shared-zero", of_shared_names(0, (1, 100)), broken(5, 99), "the same with a zero byte for the slash")
