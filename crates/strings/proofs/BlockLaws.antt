@@ -1,6 +1,6 @@
 -- Laws of strings compared by blocks, each over the block's width. Assumes nothing.
-use Prim.Native.Nat.{ℕ, zero, suc, _+_, _*_, _^_, _≤_, _<_}
-use mathlib.Core.Bool.{Bool, true, false, not}
+use Prim.Native.Nat.{ℕ, zero, suc, _+_, _-_, _*_, _^_, _≤_, _<_}
+use mathlib.Core.Bool.{Bool, true, false, not, _||_, or-false}
 use mathlib.Core.List.{List}
 use mathlib.Core.Logic.{⊎-elim}
 use mathlib.Core.Path.{_≡_, refl, sym, ap, ap₂, _∙_, subst}
@@ -187,6 +187,21 @@ module _ (low high : ℕ) {s t : List ℕ} {short last at : ℕ} (block : Decidi
     differs = λ h f. block .differs (omega arith) (parts-same low high s t at (block-same low s t at e) f);
   }
 
+-- a block of one byte, one of none, and one of which nothing is left
+byte-field : (s : List ℕ) (at : ℕ) → getD s at 0 ≡ field 1 s at
+unfolding field
+byte-field s at = omega arith
+
+empty-same : (s t : List ℕ) (at : ℕ) → differ 0 s t at ≡ false
+unfolding field
+empty-same s t at = loads-same 0 s t at refl refl refl
+
+pub seen-whole : (width : ℕ) (s t : List ℕ) (at far : ℕ) (found : Bool) → differ width s t at ≡ found || differ (at + width - far) s t far
+    → at + width ≤ far → found ≡ differ width s t at
+seen-whole width s t at far found seen l =
+    let n : at + width - far ≡ 0 = omega arith in
+    sym (seen ∙ ap (λ (v : ℕ). found || differ v s t far) n ∙ ap (λ (v : Bool). found || v) (empty-same s t far) ∙ or-false found)
+
 -- the first of the blocks side by side that differs
 module _ (width more : ℕ) (s t : List ℕ) (at : ℕ) {x y : ℕ} (ex : x ≡ field width s at) (ey : y ≡ field width t at) where
   pub first-here : (x ≡ y → ⊥) → firstDiffering width (suc more) s t at ≡ at
@@ -211,6 +226,20 @@ module _ (s t : List ℕ) (hs : Bytes s) (ht : Bytes t) where
       by : (b : Bool) → differ high s t (at + low) ≡ b → differ (low + high) s t at ≡ b
       by true h = differ-inside (low + high) high at (at + low) (omega arith) (omega arith) h
       by false h = loads-same (low + high) s t at refl refl (parts-same low high s t at (block-same low s t at e) (block-same high s t (at + low) h))
+
+  -- byte by byte: a block differs if one of its bytes was seen to, or what is left of it does
+  pub seen-other : (width at far : ℕ) → at ≤ far → far < at + width → (getD s far 0 ≡ getD t far 0 → ⊥) → differ width s t at ≡ true
+  seen-other width at far l h other =
+      differ-inside width 1 at far l (omega arith) (loads-differ 1 s t far (byte-field s far) (byte-field t far) other)
+
+  pub seen-same : (width at far : ℕ) (found : Bool) → differ width s t at ≡ found || differ (at + width - far) s t far
+      → far < at + width → getD s far 0 ≡ getD t far 0 → differ width s t at ≡ found || differ (at + width - (far + 1)) s t (far + 1)
+  seen-same width at far found seen h e =
+      let left = at + width - (far + 1) in
+      let n : at + width - far ≡ 1 + left = omega arith in
+      seen
+      ∙ ap (λ (v : ℕ). found || differ v s t far) n
+      ∙ ap (λ (v : Bool). found || v) (differ-later 1 left far (far + 1) refl (loads-same 1 s t far (byte-field s far) (byte-field t far) e))
 
   -- of a wide block that decides between two strings, the first of its blocks that differs, or the last of them, does
   pub first-decides : (width more : ℕ) {short last at : ℕ} → short + more * width ≡ last → Deciding (width + more * width) s t short at

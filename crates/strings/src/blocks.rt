@@ -45,21 +45,20 @@ pub fn deciding_eight(a: &[u8], b: &[u8], last: usize) -> usize
     last
 }
 
-// Whether the 32 bytes from `i` on differ.
+// Whether the 32 bytes from `i` on differ. No early exit and always 32 steps: a few vector instructions, with nothing to set up.
 fn differs(a: &[u8], b: &[u8], i: usize) -> bool
     requires { ⌜ (i + 32 ≤ length (now a)) × (i + 32 ≤ length (now b)) ⌝ }
     ensures { λ r. ⌜ r ≡ differ 32 (now (a .entry)) (now (b .entry)) i ⌝ }
 {
-    if u64_at(a, i) != u64_at(b, i) {
-        return true;
+    let mut found = false;
+    let mut k = i;
+    while k < i + 32 {
+        if a[k] != b[k] {
+            found = true;
+        }
+        k += 1;
     }
-    if u64_at(a, i + 8) != u64_at(b, i + 8) {
-        return true;
-    }
-    if u64_at(a, i + 16) != u64_at(b, i + 16) {
-        return true;
-    }
-    u64_at(a, i + 24) != u64_at(b, i + 24)
+    found
 }
 
 fn deciding_thirty_two(a: &[u8], b: &[u8], last: usize) -> usize

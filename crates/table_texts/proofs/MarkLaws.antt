@@ -177,6 +177,15 @@ module _ {names : Bool} {text low high : List ℕ} (marked : Marked names text l
       ⊎-elim (λ (u : i < 64 * b). past-clean names text (64 * b) i (omega arith) u) (λ (u : 64 * b ≤ i). f .lowest i u (omega arith)) (below-or i (64 * b)))))
       (below-or n end)
 
+-- a part that ends before the first barred byte from its block's start on
+pub marked-clear : {names : Bool} {text low high : List ℕ} → Marked names text low high → (at end n : ℕ) → at ≤ end → end ≤ length text
+    → n ≡ getD high (at / 64) 0 → end ≤ n → false ≡ holdsBarred names (part text at (end - at))
+marked-clear {names} {text} marked at end n from inside is h =
+    let b = at / 64 in
+    let e : n ≡ firstFrom names text (64 * b) (length text) = is ∙ marked .highs .first b (omega arith) (omega arith) in
+    let f = first-found names text (64 * b) (length text) (omega arith) in
+    sym (part-clean names text at end inside (λ i l u. f .lowest i (omega arith) (omega arith)))
+
 -- a block
 module _ (text : List ℕ) (at : ℕ) (inside : at ≤ length text) where
   pub block-from : at ≤ blockEnd text at
@@ -192,15 +201,19 @@ module _ (names : Bool) (text : List ℕ) (at end : ℕ) (from : at ≤ end) (in
   abbrev held : Bool
   held = holdsBarred names (part text at (end - at))
 
-  pub high-clean : {later : ℕ} → held ≡ false → later ≡ firstFrom names text end (length text) → later ≡ firstFrom names text at (length text)
-  high-clean none is = is ∙ sym (first-later names text at end (length text) from inside (clean-part names text at end inside none))
+  -- nothing is barred from the stretch's start to its end where the last before its end is before its start
+  pub high-clean : {later : ℕ} → pastBelow names text end ≤ at → later ≡ firstFrom names text end (length text)
+      → later ≡ firstFrom names text at (length text)
+  high-clean none is = is ∙ sym (first-later names text at end (length text) from inside (λ i l u. past-clean names text end i (omega arith) u))
 
-  pub high-held : {found : ℕ} → held ≡ true → found ≡ firstFrom names text at end → found ≡ firstFrom names text at (length text)
+  pub high-held : {found : ℕ} → at < pastBelow names text end → found ≡ firstFrom names text at end → found ≡ firstFrom names text at (length text)
   high-held some is =
+      let last = pastBelow names text end - 1 in
       is
       ∙ ⊎-elim
       (λ (h : k < end). by h)
-      (λ (h : end ≤ k). absurd (true≢false (sym some ∙ part-clean names text at end inside (λ i l u. f .lowest i l (omega arith)))))
+      (λ (h : end ≤ k).
+      absurd (true≢false (sym (past-hit names text end (omega arith)) ∙ f .lowest last (omega arith) (omega (arith, past-le names text end)))))
       (below-or k end)
     where
       k : ℕ
@@ -239,6 +252,11 @@ set-cases P s i j v h here there = by (eqb j i) refl
 pub record Next (names : Bool) (text : List ℕ) (b next : ℕ) : Type 0 where
   pub past : length text ≤ 64 * b → next ≡ length text
   pub within : 64 * b ≤ length text → next ≡ firstFrom names text (64 * b) (length text)
+
+-- the byte after the last barred one before block b, or before the text's end where there is no such block
+pub record Previous (names : Bool) (text : List ℕ) (b past : ℕ) : Type 0 where
+  pub beyond : length text ≤ 64 * b → past ≡ pastBelow names text (length text)
+  pub within : 64 * b ≤ length text → past ≡ pastBelow names text (64 * b)
 
 module _ (names : Bool) (text : List ℕ) where
   -- from the last block downward
@@ -288,9 +306,37 @@ module _ (names : Bool) (text : List ℕ) where
   pub lows-all : {b : ℕ} {low : List ℕ} → length text / 64 + 1 ≤ b → Lows names text b low → Lows names text 1024 low
   lows-all enough lows = record { past = λ j l u. lows .past j (omega arith) u }
 
-  -- where a block is whole its end is the next one's start
-  pub past-more : {past : ℕ} (b : ℕ) → past ≡ pastBelow names text (blockEnd text (64 * b)) → 64 * (b + 1) ≤ length text → past ≡ pastBelow names text (64 * (b + 1))
+  -- block after block, either way
+  pub previous-none : Previous names text 0 0
+  unfolding pastBelow
+  previous-none = record { beyond = λ l. let e : length text ≡ 0 = omega arith in rw e; within = λ l. refl }
+
+  pub previous-more : {past : ℕ} (b : ℕ) → past ≡ pastBelow names text (blockEnd text (64 * b)) → Previous names text (b + 1) past
   unfolding blockEnd
-  past-more b is l =
+  previous-more {past} b is =
+      let T = length text in
       let e : 64 * b + 64 ≡ 64 * (b + 1) = omega arith in
-      is ∙ rw (le-ltb (length text) (64 * b + 64) (omega arith)) (ap (pastBelow names text) e)
+      let whole : 64 * (b + 1) ≤ T → past ≡ pastBelow names text (64 * (b + 1)) = λ l. is ∙ rw (le-ltb T (64 * b + 64) (omega arith)) (ap (pastBelow names text) e) in
+      record {
+        beyond = λ l.
+            ⊎-elim
+            (λ (h : T < 64 * b + 64). is ∙ rw (lt-ltb T (64 * b + 64) h))
+            (λ (h : 64 * b + 64 ≤ T). whole (omega arith) ∙ ap (pastBelow names text) (omega arith))
+            (below-or T (64 * b + 64));
+        within = whole;
+      }
+
+  pub previous-end : {past : ℕ} → past ≡ pastBelow names text (length text) → Previous names text (length text / 64 + 1) past
+  previous-end is = record { beyond = λ l. is; within = λ l. absurd (omega arith) }
+
+  pub previous-at : {b past : ℕ} → 64 * b ≤ length text → past ≡ pastBelow names text (64 * b) → Previous names text b past
+  previous-at {b} inside is = record { beyond = λ l. is ∙ ap (pastBelow names text) (omega arith); within = λ l. is }
+
+  pub previous-before : {b past : ℕ} → 0 < b → Previous names text b past → past ≡ pastBelow names text (blockEnd text (64 * (b - 1)))
+  unfolding blockEnd
+  previous-before {b} {past} some is =
+      let T = length text in
+      let e : 64 * (b - 1) + 64 ≡ 64 * b = omega arith in
+      cond-cases (λ (v : ℕ). past ≡ pastBelow names text v) (ltb T (64 * (b - 1) + 64)) _ _
+      (λ f. is .beyond (omega (arith, ltb-true T (64 * (b - 1) + 64) f)))
+      (λ f. is .within (omega (arith, ltb-false T (64 * (b - 1) + 64) f)) ∙ ap (pastBelow names text) (sym e))

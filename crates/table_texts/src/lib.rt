@@ -1,6 +1,6 @@
 // Zero bytes and slashes in names and bodies that share text. Read one by one, such parts would be read again and again; where they are
 // longer together than the text allows by itself, the text is marked once instead: for each of its blocks where the barred bytes around the
-// block's start are, so that a part is known to be clean in two comparisons.
+// block's start are, so that a part is known to be clean by one comparison, or by two more where a barred byte is near.
 use parts::records::name_length;
 use parts::records::name_offset;
 use parts::records::node_count;
@@ -86,17 +86,17 @@ fn block_end(text: &[u8], at: usize) -> usize
     at + 64
 }
 
-// The first barred byte from a block's start on; `later` is the first from its end on.
-fn high_at(text: &[u8], names: bool, at: usize, later: usize) -> usize
+// The first barred byte from a block's start on; `later` is the first from its end on, `past` the byte after the last before its end.
+fn high_at(text: &[u8], names: bool, at: usize, later: usize, past: usize) -> usize
     requires { ⌜ (at ≤ length (now text)) × (length (now text) ≤ 65535)
-        × (later ≡ firstFrom names (now text) (blockEnd (now text) at) (length (now text))) ⌝ }
+        × (later ≡ firstFrom names (now text) (blockEnd (now text) at) (length (now text)))
+        × (past ≡ pastBelow names (now text) (blockEnd (now text) at)) ⌝ }
     ensures { λ r. ⌜ r ≡ firstFrom names (now (text .entry)) at (length (now (text .entry))) ⌝ }
 {
-    let end = block_end(text, at);
-    if !holds_barred(&text[at..end], names) {
+    if past <= at {
         return later;
     }
-    first_barred(text, names, at, end)
+    first_barred(text, names, at, block_end(text, at))
 }
 
 // The byte after the last barred one before a block's end; `earlier` is that before its start.
@@ -111,22 +111,11 @@ fn low_at(text: &[u8], names: bool, at: usize, earlier: usize) -> usize
     past_barred(text, names, at, end)
 }
 
-fn fill_high(text: &[u8], names: bool, high: &mut [u16])
-    requires { ⌜ (length (now text) ≤ 65535) × (1024 ≤ length (now high)) ⌝ }
-    ensures { λ _. ⌜ Highs names (now (text .entry)) 0 (now (high .exit)) × (length (now (high .exit)) ≡ length (now (high .entry))) ⌝ }
-{
-    let mut b = text.len() / 64 + 1;
-    let mut next = text.len();
-    while 0 < b {
-        b -= 1;
-        next = high_at(text, names, 64 * b, next);
-        high[b] = next as u16;
-    }
-}
-
-fn fill_low(text: &[u8], names: bool, low: &mut [u16])
+// Also the byte after the text's last barred one.
+fn fill_low(text: &[u8], names: bool, low: &mut [u16]) -> usize
     requires { ⌜ (length (now text) ≤ 65535) × (1024 ≤ length (now low)) ⌝ }
-    ensures { λ _. ⌜ Lows names (now (text .entry)) 1024 (now (low .exit)) × (length (now (low .exit)) ≡ length (now (low .entry))) ⌝ }
+    ensures { λ r. ⌜ Lows names (now (text .entry)) 1024 (now (low .exit)) × (length (now (low .exit)) ≡ length (now (low .entry)))
+        × (r ≡ pastBelow names (now (text .entry)) (length (now (text .entry)))) ⌝ }
 {
     let end = text.len() / 64 + 1;
     let mut past = 0;
@@ -135,6 +124,23 @@ fn fill_low(text: &[u8], names: bool, low: &mut [u16])
         low[b] = past as u16;
         past = low_at(text, names, 64 * b, past);
         b += 1;
+    }
+    past
+}
+
+fn fill_high(text: &[u8], names: bool, low: &[u16], last: usize, high: &mut [u16])
+    requires { ⌜ (length (now text) ≤ 65535) × (1024 ≤ length (now high)) × (1024 ≤ length (now low)) × Lows names (now text) 1024 (now low)
+        × (last ≡ pastBelow names (now text) (length (now text))) ⌝ }
+    ensures { λ _. ⌜ Highs names (now (text .entry)) 0 (now (high .exit)) × (length (now (high .exit)) ≡ length (now (high .entry))) ⌝ }
+{
+    let mut b = text.len() / 64 + 1;
+    let mut next = text.len();
+    let mut past = last;
+    while 0 < b {
+        b -= 1;
+        next = high_at(text, names, 64 * b, next, past);
+        high[b] = next as u16;
+        past = wide(low[b]);
     }
 }
 
@@ -149,6 +155,9 @@ fn part_barred(text: &[u8], names: bool, low: &[u16], high: &[u16], at: usize, e
     requires { ⌜ Marked names (now text) (now low) (now high) × (at ≤ end) × (end ≤ length (now text)) ⌝ }
     ensures { λ r. ⌜ r ≡ holdsBarred names (part (now (text .entry)) at (end - at)) ⌝ }
 {
+    if end <= wide(high[at / 64]) {
+        return false;
+    }
     let b = (at + 63) / 64;
     if end < 64 * b {
         return holds_barred(&text[at..end], names);
@@ -230,8 +239,8 @@ fn first_barred_record(records: &[u8], text: &[u8], count: usize, names: bool) -
 {
     let mut low = [0u16; STARTS];
     let mut high = [0u16; STARTS];
-    fill_low(text, names, &mut low);
-    fill_high(text, names, &mut high);
+    let last = fill_low(text, names, &mut low);
+    fill_high(text, names, &low, last, &mut high);
     first_marked(records, text, count, names, &low, &high)
 }
 

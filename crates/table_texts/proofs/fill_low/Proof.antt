@@ -6,13 +6,13 @@ use mathlib.Core.Path.{_≡_, refl}
 use native.Mathlib.Omega.{arith}
 use denote.Ref.{now}
 use lib.ListN.{length, length-set}
-use Rattle.table_texts.specs.Marks.{pastBelow, Lows}
-use Rattle.table_texts.proofs.MarkLaws.{past-le, lows-none, lows-more, lows-all, past-more}
+use Rattle.table_texts.specs.Marks.{Lows}
+use Rattle.table_texts.proofs.MarkLaws.{Previous, past-le, lows-none, lows-more, lows-all, previous-none, previous-more}
 use Rattle.table_texts.proofs.fill_low.Statement.{statement}
 use Rattle.table_texts.proofs.fill_low.Tie as tie
 
 abbrev Inv-loop : tie.InvT-loop
-Inv-loop text names low₀ end past₀ b₀ low past b = (b ≤ length text / 64 + 1) × (64 * b ≤ length text → past ≡ pastBelow names text (64 * b))
+Inv-loop text names low₀ end past₀ b₀ low past b = (b ≤ length text / 64 + 1) × Previous names text b past
     × Lows names text b low × (length low ≡ length low₀)
 
 abbrev μ-loop : tie.MeasureT-loop
@@ -22,16 +22,15 @@ add-end : tie.Need-add-end Inv-loop μ-loop
 add-end c = search needs
 
 loop-holds : tie.Need-loop-holds Inv-loop μ-loop
-unfolding pastBelow
 loop-holds c =
     let a = c .before .before .args in
-    (omega arith, λ h. refl, lows-none (a .names) (now (a .text)) _, refl)
+    (omega arith, previous-none (a .names) (now (a .text)), lows-none (a .names) (now (a .text)) _, refl)
 
 cast-low : tie.Need-cast-low Inv-loop μ-loop
 cast-low c =
     let a = c .before .before .before .before .args in
     let l = c .before .loop in
-    omega (arith, l .inv .1 (omega arith), past-le (a .names) (now (a .text)) (64 * l .b))
+    omega (arith, l .inv .1 .within (omega arith), past-le (a .names) (now (a .text)) (64 * l .b))
 
 mul-low : tie.Need-mul-low Inv-loop μ-loop
 mul-low c = omega arith
@@ -43,7 +42,7 @@ mul-low-at : tie.Need-mul-low-at Inv-loop μ-loop
 mul-low-at c = omega arith
 
 low-at-requires : tie.Need-low-at-requires Inv-loop μ-loop
-low-at-requires c κs = (omega arith, omega arith, c .before .loop .inv .1 (omega arith))
+low-at-requires c κs = (omega arith, omega arith, c .before .loop .inv .1 .within (omega arith))
 
 add-b : tie.Need-add-b Inv-loop μ-loop
 add-b c = omega arith
@@ -57,8 +56,8 @@ loop-again c =
     let l = c .before .before .loop in
     let t = now (a .text) in (
       omega arith,
-      past-more (a .names) t (l .b) (c .low-at .ensures),
-      lows-more (a .names) t _ (omega arith) (l .inv .1 (omega arith)) (l .inv .2),
+      previous-more (a .names) t (l .b) (c .low-at .ensures),
+      lows-more (a .names) t _ (omega arith) (l .inv .1 .within (omega arith)) (l .inv .2),
       simp length-set (l .inv .3),
     )
 
@@ -69,7 +68,7 @@ returns : tie.Need-returns Inv-loop μ-loop
 returns c =
     let a = c .before .before .before .before .args in
     let l = c .before .loop in
-    (lows-all (a .names) (now (a .text)) (omega arith) (l .inv .2), l .inv .3)
+    (lows-all (a .names) (now (a .text)) (omega arith) (l .inv .2), l .inv .3, l .inv .1 .beyond (omega arith))
 
 pub fill-low-spec : {M : Type 1} → statement M
 fill-low-spec =

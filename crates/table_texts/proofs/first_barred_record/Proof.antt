@@ -13,6 +13,9 @@ fill-low-requires c κs = search needs
 slice-aggregate-fill-high : tie.Need-slice-aggregate-fill-high
 slice-aggregate-fill-high c = search needs
 
+slice-aggregate-fill-high-2 : tie.Need-slice-aggregate-fill-high-2
+slice-aggregate-fill-high-2 c = search needs
+
 fill-high-requires : tie.Need-fill-high-requires
 fill-high-requires c κs = search needs
 
@@ -24,8 +27,8 @@ slice-aggregate-first-marked-2 c = search needs
 
 first-marked-requires : tie.Need-first-marked-requires
 first-marked-requires c κs =
-    let p = c .before .before .before .before .before .before .before .before .before .before .pre in
-    let low = c .before .before .before .before .before .before .fill-low .ensures in
+    let p = c .before .before .before .before .before .before .before .before .before .before .before .pre in
+    let low = c .before .before .before .before .before .before .before .fill-low .ensures in
     let high = c .before .before .before .fill-high .ensures in
     (record { short = p .0; low-room = omega arith; high-room = omega arith; lows = low .0; highs = high .0 }, p .1)
 
@@ -39,6 +42,7 @@ first-barred-record-spec =
     slice-aggregate-fill-low
     fill-low-requires
     slice-aggregate-fill-high
+    slice-aggregate-fill-high-2
     fill-high-requires
     slice-aggregate-first-marked
     slice-aggregate-first-marked-2

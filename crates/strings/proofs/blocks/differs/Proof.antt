@@ -1,131 +1,75 @@
--- `strings::blocks::differs` meets its contract. Assumes nothing.
-use Prim.Native.Nat.{_+_}
-use mathlib.Core.Path.{refl, sym, _∙_}
+-- `strings::blocks::differs` meets its contract. The loop's invariant: the block differs if a byte was seen to, or what is left of it
+-- from `k` on does. Assumes nothing.
+use Prim.Native.Nat.{ℕ, _+_, _-_, _≤_}
+use mathlib.Core.Bool.{_||_}
+use mathlib.Core.Logic.{⊎-elim}
+use mathlib.Core.Path.{_≡_, ap, _∙_}
 use native.Mathlib.Omega.{arith}
 use denote.Ref.{now}
-use Rattle.strings.proofs.BlockLaws.{differ-inside, differ-later, loads-tell, loads-same, loads-differ}
-use borrow.Author.Needs.{needs}
+use Rattle.strings.specs.Blocks.{differ}
+use Rattle.strings.proofs.BlockLaws.{Bytes, seen-other, seen-same, seen-whole}
 use Rattle.strings.proofs.blocks.differs.Statement.{statement}
 use Rattle.strings.proofs.blocks.differs.Tie as tie
 
-u64-at-requires : tie.Need-u64-at-requires
-u64-at-requires c κs = search needs
+abbrev Inv-loop : tie.InvT-loop
+Inv-loop a b i found₀ k₀ found k = (i ≤ k) × (k ≤ i + 32) × (differ 32 a b i ≡ found || differ (i + 32 - k) a b k)
 
-u64-at-requires-2 : tie.Need-u64-at-requires-2
-u64-at-requires-2 c κs = search needs
+abbrev μ-loop : tie.MeasureT-loop
+μ-loop a b i found₀ k₀ found k = i + 32 - k
 
-returns : tie.Need-returns
+loop-holds : tie.Need-loop-holds Inv-loop μ-loop
+loop-holds c =
+    let args = c .args in
+    (omega arith, omega arith, ap (λ (n : ℕ). differ n (now (args .a)) (now (args .b)) (args .i)) (omega arith))
+
+add-loop : tie.Need-add-loop Inv-loop μ-loop
+add-loop c = omega arith
+
+shared-slice-read-if1 : tie.Need-shared-slice-read-if1 Inv-loop μ-loop
+shared-slice-read-if1 c = omega arith
+
+shared-slice-read-if1-2 : tie.Need-shared-slice-read-if1-2 Inv-loop μ-loop
+shared-slice-read-if1-2 c = omega arith
+
+add-k : tie.Need-add-k Inv-loop μ-loop
+add-k c = omega arith
+
+loop-less : tie.Need-loop-less Inv-loop μ-loop
+loop-less c = omega arith
+
+loop-again : tie.Need-loop-again Inv-loop μ-loop
+loop-again c =
+    let args = c .before .before .before .before .before .args in
+    let loop = c .before .before .before .before .loop in
+    let a = now (args .a) in
+    let b = now (args .b) in
+    let bytes-a : Bytes a = λ n. omega (arith, c .before .before .shared-slice-known .given n) in
+    let bytes-b : Bytes b = λ n. omega (arith, c .before .shared-slice-known2 .given n) in (
+      omega arith,
+      omega arith,
+      ⊎-elim
+          (λ w. seen-other a b bytes-a bytes-b 32 (args .i) (loop .k) (omega arith) (omega arith) (w .0 .taken) ∙ rw (w .1))
+          (λ w. seen-same a b bytes-a bytes-b 32 (args .i) (loop .k) (loop .found) (loop .inv .2) (omega arith) (w .0 .left) ∙ rw (w .1))
+          (c .if1 .came),
+    )
+
+returns : tie.Need-returns Inv-loop μ-loop
 returns c =
-    let start = c .before .before .before in
-    let u64-at = c .before .before .u64-at in
-    let u64-at2 = c .before .u64-at2 in
-    let args = start .before .before .args in
-    let a = now (args .a) in
-    let b = now (args .b) in
-    let i = args .i in
-    sym
-    (differ-inside a b (λ k. omega (arith, start .before .shared-slice-known .given k)) (λ k. omega (arith, start .shared-slice-known2 .given k)) 32 8 i i (omega arith) (omega arith)
-    (loads-differ 8 a b i (u64-at .ensures .0) (u64-at2 .ensures .0) (c .if1 .taken)))
-
-add-u64-at : tie.Need-add-u64-at
-add-u64-at c = search needs
-
-u64-at-requires-3 : tie.Need-u64-at-requires-3
-u64-at-requires-3 c κs = search needs
-
-add-u64-at-2 : tie.Need-add-u64-at-2
-add-u64-at-2 c = search needs
-
-u64-at-requires-4 : tie.Need-u64-at-requires-4
-u64-at-requires-4 c κs = search needs
-
-returns-2 : tie.Need-returns-2
-returns-2 c =
-    let start = c .before .before .before .before .before .before in
-    let u64-at3 = c .before .before .u64-at3 in
-    let u64-at4 = c .before .u64-at4 in
-    let args = start .before .before .args in
-    let a = now (args .a) in
-    let b = now (args .b) in
-    let i = args .i in
-    sym
-    (differ-inside a b (λ k. omega (arith, start .before .shared-slice-known .given k)) (λ k. omega (arith, start .shared-slice-known2 .given k)) 32 8 i (i + 8) (omega arith) (omega arith)
-    (loads-differ 8 a b (i + 8) (u64-at3 .ensures .0) (u64-at4 .ensures .0) (c .if2 .taken)))
-
-add-u64-at-3 : tie.Need-add-u64-at-3
-add-u64-at-3 c = search needs
-
-u64-at-requires-5 : tie.Need-u64-at-requires-5
-u64-at-requires-5 c κs = search needs
-
-add-u64-at-4 : tie.Need-add-u64-at-4
-add-u64-at-4 c = search needs
-
-u64-at-requires-6 : tie.Need-u64-at-requires-6
-u64-at-requires-6 c κs = search needs
-
-returns-3 : tie.Need-returns-3
-returns-3 c =
-    let start = c .before .before .before .before .before .before .before .before .before in
-    let u64-at5 = c .before .before .u64-at5 in
-    let u64-at6 = c .before .u64-at6 in
-    let args = start .before .before .args in
-    let a = now (args .a) in
-    let b = now (args .b) in
-    let i = args .i in
-    sym
-    (differ-inside a b (λ k. omega (arith, start .before .shared-slice-known .given k)) (λ k. omega (arith, start .shared-slice-known2 .given k)) 32 8 i (i + 16) (omega arith) (omega arith)
-    (loads-differ 8 a b (i + 16) (u64-at5 .ensures .0) (u64-at6 .ensures .0) (c .if3 .taken)))
-
-add-u64-at-5 : tie.Need-add-u64-at-5
-add-u64-at-5 c = search needs
-
-u64-at-requires-7 : tie.Need-u64-at-requires-7
-u64-at-requires-7 c κs = search needs
-
-add-u64-at-6 : tie.Need-add-u64-at-6
-add-u64-at-6 c = search needs
-
-u64-at-requires-8 : tie.Need-u64-at-requires-8
-u64-at-requires-8 c κs = search needs
-
-returns-4 : tie.Need-returns-4
-returns-4 c =
-    let third = c .before .before in
-    let u64-at7 = c .before .u64-at7 in
-    let second = third .before .before .before in
-    let first = second .before .before .before in
-    let start = first .before .before .before in
-    let args = start .before .before .args in
-    let a = now (args .a) in
-    let b = now (args .b) in
-    let i = args .i in
-    let later = differ-later a b (λ k. omega (arith, start .before .shared-slice-known .given k)) (λ k. omega (arith, start .shared-slice-known2 .given k)) 8 in
-    sym
-    (later 24 i (i + 8) refl (loads-same 8 a b i (first .before .before .u64-at .ensures .0) (first .before .u64-at2 .ensures .0) (first .if1 .left))
-    ∙ later 16 (i + 8) (i + 16) (omega arith) (loads-same 8 a b (i + 8) (second .before .before .u64-at3 .ensures .0) (second .before .u64-at4 .ensures .0) (second .if2 .left))
-    ∙ later 8 (i + 16) (i + 24) (omega arith) (loads-same 8 a b (i + 16) (third .before .before .u64-at5 .ensures .0) (third .before .u64-at6 .ensures .0) (third .if3 .left))
-    ∙ sym (loads-tell 8 a b (i + 24) (u64-at7 .ensures .0) (c .u64-at8 .ensures .0)))
+    let args = c .before .before .args in
+    let loop = c .before .loop in
+    seen-whole 32 (now (args .a)) (now (args .b)) (args .i) (loop .k) (loop .found) (loop .inv .2) (c .loop-test .left)
 
 pub differs-spec : {M : Type 1} → statement M
 differs-spec =
     tie.close
     (tie.spec
-    u64-at-requires
-    u64-at-requires-2
-    returns
-    add-u64-at
-    u64-at-requires-3
-    add-u64-at-2
-    u64-at-requires-4
-    returns-2
-    add-u64-at-3
-    u64-at-requires-5
-    add-u64-at-4
-    u64-at-requires-6
-    returns-3
-    add-u64-at-5
-    u64-at-requires-7
-    add-u64-at-6
-    u64-at-requires-8
-    returns-4)
+    Inv-loop
+    μ-loop
+    loop-holds
+    add-loop
+    shared-slice-read-if1
+    shared-slice-read-if1-2
+    add-k
+    loop-less
+    loop-again
+    returns)
