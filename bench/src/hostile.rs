@@ -36,6 +36,21 @@ pub const CASES: &[Case] = &[
         build: || accepted(names_and_slash()),
     },
     Case {
+        name: "hostile-names-slashes",
+        about: "4,096 names of 255 bytes over shared text, a slash between any two",
+        build: || accepted(names_between_slashes(NAME)),
+    },
+    Case {
+        name: "hostile-short-names",
+        about: "4,096 names of 31 bytes over shared text, a slash between any two",
+        build: || accepted(names_between_slashes(31)),
+    },
+    Case {
+        name: "hostile-short-bodies",
+        about: "4,095 symbolic links with bodies of 23 bytes over shared text, a zero byte between any two",
+        build: || accepted(short_bodies()),
+    },
+    Case {
         name: "hostile-points",
         about: "255 mount points at the end of a chain of 4,096 directories",
         build: || accepted(points()),
@@ -106,6 +121,29 @@ fn names_and_slash() -> Tree {
     tree
 }
 
+/// Alike but for the last two bytes; as many as the text has room for, in as many directories as make 4,096 entries.
+fn names_between_slashes(length: usize) -> Tree {
+    let (mut tree, top) = Tree::mounted();
+    let file = tree.file();
+    let count = 32_200 / (length + 1);
+    let mut directories = vec![top];
+    directories.extend((1..=4_096 / count).map(|_| tree.directory(top)));
+    let names: Vec<Text> = (0..count)
+        .map(|i| {
+            let mut name = vec![b'n'; length];
+            name[length - 2] = b'0' + (i / 64) as u8;
+            name[length - 1] = b'0' + (i % 64) as u8;
+            let name = tree.text(&name);
+            tree.text(b"/");
+            name
+        })
+        .collect();
+    for i in 0..4_096 {
+        tree.name_as(directories[i / names.len()], names[i % names.len()], file);
+    }
+    tree
+}
+
 fn bodies_and_zero() -> Tree {
     let (mut tree, _) = Tree::mounted();
     let all = tree.text(&letters(16_355));
@@ -126,6 +164,21 @@ fn bodies_between_zeros() -> Tree {
         .collect();
     for i in 0..4_095 {
         tree.symlink(parts[i % parts.len()].part(i % 27, 300));
+    }
+    tree
+}
+
+fn short_bodies() -> Tree {
+    let (mut tree, _) = Tree::mounted();
+    let bodies: Vec<Text> = (0..681)
+        .map(|_| {
+            let body = tree.text(&letters(23));
+            tree.text(&[0]);
+            body
+        })
+        .collect();
+    for i in 0..4_095 {
+        tree.symlink(bodies[i % bodies.len()]);
     }
     tree
 }

@@ -1,4 +1,4 @@
-// Strings compared by blocks of four or eight bytes, each a single load, and long ones by four such loads at a time. What decides
+// Strings compared by blocks of four or eight bytes, each a single load, and long ones by 32 bytes at a time before that. What decides
 // is the first block that differs, or the last one, which may overlap the one before it so that no bytes are left over.
 use fields::u32_at;
 use fields::u64_at;
