@@ -152,31 +152,29 @@ fn bodies_and_zero() -> Tree {
     tree
 }
 
+/// So many stretches of text, a zero byte after each.
+fn before_zeros(tree: &mut Tree, count: usize, length: usize) -> Vec<Text> {
+    let stretch = |_| {
+        let stretch = tree.text(&letters(length));
+        tree.text(&[0]);
+        stretch
+    };
+    (0..count).map(stretch).collect()
+}
+
 /// Each body begins at the first byte after a zero byte, or some bytes further.
 fn bodies_between_zeros() -> Tree {
     let (mut tree, _) = Tree::mounted();
-    let parts: Vec<Text> = (0..50)
-        .map(|_| {
-            let part = tree.text(&letters(326));
-            tree.text(&[0]);
-            part
-        })
-        .collect();
+    let stretches = before_zeros(&mut tree, 50, 326);
     for i in 0..4_095 {
-        tree.symlink(parts[i % parts.len()].part(i % 27, 300));
+        tree.symlink(stretches[i % stretches.len()].part(i % 27, 300));
     }
     tree
 }
 
 fn short_bodies() -> Tree {
     let (mut tree, _) = Tree::mounted();
-    let bodies: Vec<Text> = (0..681)
-        .map(|_| {
-            let body = tree.text(&letters(23));
-            tree.text(&[0]);
-            body
-        })
-        .collect();
+    let bodies = before_zeros(&mut tree, 681, 23);
     for i in 0..4_095 {
         tree.symlink(bodies[i % bodies.len()]);
     }
