@@ -3,7 +3,6 @@
 mod names;
 
 use crate::names::name_holds;
-use crate::names::sure_names;
 use parts::records::Counts;
 use parts::records::entry_node;
 use parts::records::node_count;
@@ -13,6 +12,7 @@ use parts::records::node_parent;
 use parts::search::Search;
 use parts::texts::name;
 use strings::comes_before;
+use table_texts::sure_records;
 ghost use mathlib.Core.Bool.{true};
 ghost use mathlib.Core.List.{[]};
 ghost use mathlib.Core.Path.{_≡_};
@@ -24,7 +24,7 @@ ghost use Rattle.parts.specs.Parts.{entriesTree, NodeRecords};
 ghost use Rattle.parts.specs.Searches.{searchOf};
 ghost use Rattle.table_entries.specs.Given.{Given, Named};
 ghost use Rattle.table_entries.specs.Ranges.{badIn, badOf, ascendsFrom, endsEntries};
-ghost use Rattle.table_entries.specs.Texts.{sureNames};
+ghost use Rattle.table_texts.specs.Barred.{sureRecords};
 
 // `first` is the first entry of the directory that holds the entry.
 fn entry_ascends(entries: &[u8], text: &[u8], first: usize, e: usize) -> bool
@@ -65,7 +65,7 @@ fn entry_holds(
 ) -> bool
     requires { ⌜ Given c (now nodes) (now entries) (now text) × Held (entriesTree c (now nodes) (now entries) (now text)) n e
         × (first ≡ firstIn (now nodes) n) × (first < e → nameHolds (entriesTree c (now nodes) (now entries) (now text)) (e - 1) ≡ true)
-        × (sure ≡ sureNames c (now entries) (now text)) ⌝ }
+        × (sure ≡ sureRecords true (now entries) (now text) (c .entries)) ⌝ }
     ensures { λ r. ⌜ r ≡ entryHolds (entriesTree c (now (nodes .entry)) (now (entries .entry)) (now (text .entry))) e ⌝ }
 {
     if !name_holds(entries, text, c, e, sure) {
@@ -90,7 +90,7 @@ fn bad_in_directory(
     sure: usize,
 ) -> Search
     requires { ⌜ Given c (now nodes) (now entries) (now text) × (isDirectory (entriesTree c (now nodes) (now entries) (now text)) n ≡ true)
-        × (sure ≡ sureNames c (now entries) (now text)) ⌝ }
+        × (sure ≡ sureRecords true (now entries) (now text) (c .entries)) ⌝ }
     ensures { λ r. ⌜ r ≡ searchOf (badIn (entriesTree c (now (nodes .entry)) (now (entries .entry)) (now (text .entry)))
         (firstIn (now (nodes .entry)) n) (countIn (now (nodes .entry)) n)) ⌝ }
 {
@@ -114,7 +114,7 @@ fn bad_in_node(
     n: usize,
     sure: usize,
 ) -> Search
-    requires { ⌜ Given c (now nodes) (now entries) (now text) × (n < c .nodes) × (sure ≡ sureNames c (now entries) (now text)) ⌝ }
+    requires { ⌜ Given c (now nodes) (now entries) (now text) × (n < c .nodes) × (sure ≡ sureRecords true (now entries) (now text) (c .entries)) ⌝ }
     ensures { λ r. ⌜ r ≡ searchOf (badOf (entriesTree c (now (nodes .entry)) (now (entries .entry)) (now (text .entry))) n) ⌝ }
 {
     if node_kind(nodes, n) != 1 {
@@ -135,7 +135,7 @@ fn ends_entries(nodes: &[u8], c: Counts, n: usize) -> bool
 }
 
 fn bad_entry(nodes: &[u8], entries: &[u8], text: &[u8], c: Counts, sure: usize) -> Search
-    requires { ⌜ Given c (now nodes) (now entries) (now text) × (sure ≡ sureNames c (now entries) (now text)) ⌝ }
+    requires { ⌜ Given c (now nodes) (now entries) (now text) × (sure ≡ sureRecords true (now entries) (now text) (c .entries)) ⌝ }
     ensures { λ r. ⌜ r ≡ searchOf (rule5 (entriesTree c (now (nodes .entry)) (now (entries .entry)) (now (text .entry)))) ⌝ }
 {
     let end = c.nodes;
@@ -160,5 +160,5 @@ pub fn first_bad_entry(nodes: &[u8], entries: &[u8], text: &[u8], c: Counts) -> 
     if c.entries == 0 {
         return Search::Nowhere;
     }
-    bad_entry(nodes, entries, text, c, sure_names(entries, text, c))
+    bad_entry(nodes, entries, text, c, sure_records(entries, text, c.entries, true))
 }

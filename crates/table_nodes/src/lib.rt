@@ -1,5 +1,4 @@
 // Rule 4 of the table check: node records, one function for each sentence.
-use parts::lending::lend;
 use parts::records::Counts;
 use parts::records::node_count;
 use parts::records::node_first;
@@ -9,6 +8,7 @@ use parts::search::Search;
 use parts::texts::body;
 use strings::holds_byte;
 use table_texts::sure_records;
+ghost use mathlib.Core.Bool.{false};
 ghost use mathlib.Core.List.{[]};
 ghost use mathlib.Core.Path.{_≡_};
 ghost use Prim.Native.Nat.{_^_, _<_};
@@ -16,7 +16,7 @@ ghost use Rattle.model.specs.Tree.{kindIn};
 ghost use Rattle.model.specs.TableCheck.{countsBefore, directoryCount, directoryHolds, fileHolds, symlinkHolds, magicHolds, nodeHolds, rule4};
 ghost use Rattle.parts.specs.Parts.{nodesTree, NodeRecords};
 ghost use Rattle.parts.specs.Searches.{searchOf};
-ghost use Rattle.table_nodes.specs.Texts.{seenClean, sureBodies};
+ghost use Rattle.table_texts.specs.Barred.{sureRecords};
 
 // `sum` is the sum of earlier directories' counts. A parent numbered no higher than the node is below N, as the node is.
 fn directory_holds(nodes: &[u8], c: Counts, n: usize, sum: usize) -> bool
@@ -48,7 +48,7 @@ fn file_holds(nodes: &[u8], c: Counts, n: usize) -> bool
 
 // The bodies of nodes below `sure` are known to have no zero byte.
 fn symlink_holds(nodes: &[u8], text: &[u8], c: Counts, n: usize, sure: usize) -> bool
-    requires { ⌜ NodeRecords c (now nodes) × (n < c .nodes) × (kindIn (now nodes) n ≡ 3) × (sure ≡ sureBodies c (now nodes) (now text)) ⌝ }
+    requires { ⌜ NodeRecords c (now nodes) × (n < c .nodes) × (kindIn (now nodes) n ≡ 3) × (sure ≡ sureRecords false (now nodes) (now text) (c .nodes)) ⌝ }
     ensures { λ r. ⌜ r ≡ symlinkHolds (nodesTree c (now (nodes .entry)) (now (text .entry))) n ⌝ }
 {
     let count = node_count(nodes, n);
@@ -88,7 +88,7 @@ fn node_holds(
     sure: usize,
 ) -> bool
     requires { ⌜ NodeRecords c (now nodes) × (n < c .nodes) × (kind ≡ kindIn (now nodes) n)
-        × (sum ≡ countsBefore (nodesTree c (now nodes) (now text)) n) × (sure ≡ sureBodies c (now nodes) (now text)) ⌝ }
+        × (sum ≡ countsBefore (nodesTree c (now nodes) (now text)) n) × (sure ≡ sureRecords false (now nodes) (now text) (c .nodes)) ⌝ }
     ensures { λ r. ⌜ r ≡ nodeHolds (nodesTree c (now (nodes .entry)) (now (text .entry))) n ⌝ }
 {
     match kind {
@@ -108,36 +108,11 @@ fn directory_count(nodes: &[u8], c: Counts, n: usize, kind: usize) -> usize
     if kind == 1 { node_count(nodes, n) } else { 0 }
 }
 
-// Whether the text is seen to have no zero byte. It is read, once for all bodies, where that costs no more than it saves: not where the
-// nodes are few or the text is long beside them.
-fn text_clean(text: &[u8], c: Counts) -> bool
-    ensures { λ r. ⌜ r ≡ seenClean c (now (text .entry)) ⌝ }
-{
-    if c.nodes < 16 + text.len() / 32 {
-        return false;
-    }
-    !holds_byte(text, 0)
-}
-
-// How many nodes, from the first on, are known to have no zero byte in their bodies: all of them in a text that is seen to have none.
-fn sure_bodies(nodes: &[u8], text: &[u8], c: Counts) -> usize
-    requires { ⌜ NodeRecords c (now nodes) ⌝ }
-    ensures { λ r. ⌜ r ≡ sureBodies c (now (nodes .entry)) (now (text .entry)) ⌝ }
-{
-    if text_clean(text, c) {
-        return c.nodes;
-    }
-    if c.nodes < 16 {
-        return 0;
-    }
-    sure_records(lend(nodes), lend(text), c.nodes, false)
-}
-
 pub fn first_bad_node(nodes: &[u8], text: &[u8], c: Counts) -> Search
     requires { ⌜ NodeRecords c (now nodes) ⌝ }
     ensures { λ r. ⌜ r ≡ searchOf (rule4 (nodesTree c (now (nodes .entry)) (now (text .entry)))) ⌝ }
 {
-    let sure = sure_bodies(nodes, text, c);
+    let sure = sure_records(nodes, text, c.nodes, false);
     let end = c.nodes;
     let mut sum = 0;
     let mut n = 0;

@@ -1,3 +1,2 @@
-pub mod MarkLaws
-pub mod RecordLaws
+mod RecordLaws
 pub mod SureLaws

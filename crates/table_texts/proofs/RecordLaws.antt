@@ -1,51 +1,89 @@
--- Laws of records whose parts hold a barred byte, and of how long their parts are together. Assumes nothing.
-use Prim.Native.Nat.{ℕ, zero, suc, _+_, _-_, _*_, _≤_, _<_}
-use mathlib.Core.Bool.{Bool, true, false, cond, _&&_}
+-- Laws of records whose parts hold a barred byte, of the first of them, and of how long their parts are together. Assumes nothing.
+use Prim.Native.Nat.{ℕ, zero, suc, _+_, _-_, _*_, _/_, _≤_, _<_}
+use mathlib.Core.Bool.{Bool, true, false, cond, not, true≢false}
 use mathlib.Core.List.{List}
-use mathlib.Core.Path.{_≡_, sym, ap, ap₂, _∙_}
+use mathlib.Core.Logic.{_⊎_, inl, inr, ⊎-elim}
+use mathlib.Core.Path.{_≡_, refl, sym, ap, ap₂, _∙_}
 use native.Mathlib.Omega.{arith}
-use borrow.Author.Tests.{lt-ltb, le-ltb, le-leb, lt-leb, eq-eqb, ne-eqb}
+use borrow.Author.Tests.{lt-ltb, le-ltb, le-leb, lt-leb, leb-true, not-true}
 use lib.Dec.{leb}
 use lib.ListN.{length}
-use Rattle.model.specs.Bytes.{part, find}
-use Rattle.model.specs.Tree.{kindIn, firstIn, countIn, nameOffsetIn, nameLengthIn}
+use Rattle.model.specs.Bytes.{part, contains, find}
 use Rattle.model.specs.TableCheck.{sumBelow}
 use Rattle.parts.specs.Searches.{foundOr}
-use Rattle.table_texts.specs.Barred.{holdsBarred, nameBarred, bodyBarred, recordBarred, recordSize, partLength, longerThan, sureRecords}
+use Rattle.parts.proofs.FoundLaws.{found, found-here, found-on, found-done}
+use Rattle.strings.proofs.PartLaws.{neither, not-in-part}
+use Rattle.theorems.proofs.Cases.{below-or, both}
+use Rattle.text_marks.specs.Barred.{holdsBarred}
+use Rattle.table_texts.specs.Barred.{recordSize, partStart, partLength, recordBarred, firstBarred, seenClean, longerThan, isMarked}
 
--- a part that ends after the text, and one that does not
-outside : (text : List ℕ) (at count : ℕ) (b : Bool) → length text < at + count → (leb (at + count) (length text) && b) ≡ false
-outside text at count b h = rw (lt-leb (at + count) (length text) h)
+module _ (names : Bool) (records text : List ℕ) where
+  -- a part that ends after the text, and one that does not
+  module _ (k : ℕ) where
+    pub outside : length text < partStart names records k + partLength names records k → recordBarred names records text k ≡ false
+    unfolding recordBarred
+    outside h = rw (lt-leb (partStart names records k + partLength names records k) (length text) h)
 
-inside : (names : Bool) (text : List ℕ) (at count start end : ℕ) → start ≡ at → end ≡ at + count → end ≤ length text
-    → (leb (at + count) (length text) && holdsBarred names (part text at count)) ≡ holdsBarred names (part text start (end - start))
-inside names text at count start end e f h =
-    let g : count ≡ end - start = omega arith in
-    let l : at + count ≤ length text = omega arith in
-    rw (le-leb (at + count) (length text) l) (ap₂ (λ (k n : ℕ). holdsBarred names (part text k n)) (sym e) g)
+    pub inside : (start end : ℕ) → start ≡ partStart names records k → end ≡ partStart names records k + partLength names records k → end ≤ length text
+        → recordBarred names records text k ≡ holdsBarred names (part text start (end - start))
+    unfolding recordBarred
+    inside start end e f h =
+        let at = partStart names records k in
+        let count = partLength names records k in
+        let g : count ≡ end - start = omega arith in
+        rw (le-leb (at + count) (length text) (omega arith)) (ap₂ (λ (i n : ℕ). holdsBarred names (part text i n)) (sym e) g)
 
-module _ (records text : List ℕ) (k : ℕ) where
-  pub name-outside : length text < nameOffsetIn records k + nameLengthIn records k → nameBarred records text k ≡ false
-  unfolding nameBarred
-  name-outside h = outside text (nameOffsetIn records k) (nameLengthIn records k) _ h
+  -- the first, by those before a number
+  module _ (count k : ℕ) where
+    -- those before it are not barred
+    abbrev pub NoneBefore : Type 0
+    NoneBefore = firstBarred names records text count ≡ foundOr count (find (λ i. recordBarred names records text i) k (count - k))
 
-  pub name-inside : (start end : ℕ) → start ≡ nameOffsetIn records k → end ≡ nameOffsetIn records k + nameLengthIn records k → end ≤ length text
-      → nameBarred records text k ≡ holdsBarred true (part text start (end - start))
-  unfolding nameBarred
-  name-inside start end e f h = inside true text (nameOffsetIn records k) (nameLengthIn records k) start end e f h
+    module _ (seen : NoneBefore) where
+      pub first-hit : k < count → recordBarred names records text k ≡ true → k ≡ firstBarred names records text count
+      first-hit l e = sym (seen ∙ found-here (λ i. recordBarred names records text i) k count l e)
 
-  pub body-none : (kindIn records k ≡ 3 → ⊥) → bodyBarred records text k ≡ false
-  unfolding bodyBarred
-  body-none e = rw (ne-eqb (kindIn records k) 3 e)
+      pub first-none : k ≤ count → count ≤ k → k ≡ firstBarred names records text count
+      first-none l u = omega arith ∙ sym (seen ∙ found-done (λ i. recordBarred names records text i) k count u)
 
-  pub body-outside : kindIn records k ≡ 3 → length text < firstIn records k + countIn records k → bodyBarred records text k ≡ false
-  unfolding bodyBarred
-  body-outside e h = rw (eq-eqb (kindIn records k) 3 e) (outside text (firstIn records k) (countIn records k) _ h)
+  pub first-start : (count : ℕ) → NoneBefore count 0
+  unfolding firstBarred
+  first-start count = let e : count - 0 ≡ count = omega arith in rw e
 
-  pub body-inside : (start end : ℕ) → kindIn records k ≡ 3 → start ≡ firstIn records k → end ≡ firstIn records k + countIn records k → end ≤ length text
-      → bodyBarred records text k ≡ holdsBarred false (part text start (end - start))
-  unfolding bodyBarred
-  body-inside start end e f g h = rw (eq-eqb (kindIn records k) 3 e) (inside false text (firstIn records k) (countIn records k) start end f g h)
+  pub first-miss : (count k : ℕ) → NoneBefore count k → k < count → recordBarred names records text k ≡ false → NoneBefore count (k + 1)
+  first-miss count k seen l e = seen ∙ found-on (λ i. recordBarred names records text i) k count l e
+
+-- no part of a clean string is barred
+clean-part : (names : Bool) (s : List ℕ) (at n : ℕ) → holdsBarred names s ≡ false → holdsBarred names (part s at n) ≡ false
+unfolding holdsBarred
+clean-part true s at n e =
+    let h = neither (contains 0 s) (contains 47 s) e in
+    rw (not-in-part 0 s at n (h .0), not-in-part 47 s at n (h .1))
+clean-part false s at n e =
+    let h = neither (contains 0 s) false e in
+    rw (not-in-part 0 s at n (h .0))
+
+-- so no record is, over a clean text
+clean-record : (names : Bool) (records text : List ℕ) (k : ℕ) → holdsBarred names text ≡ false → recordBarred names records text k ≡ false
+clean-record names records text k e =
+    let at = partStart names records k in
+    let n = partLength names records k in
+    ⊎-elim
+    (λ (h : length text < at + n). outside names records text k h)
+    (λ (h : at + n ≤ length text). inside names records text k at (at + n) refl refl h ∙ clean-part names text at ((at + n) - at) e)
+    (below-or (length text) (at + n))
+
+pub first-clean : (names : Bool) (records text : List ℕ) (count : ℕ) → holdsBarred names text ≡ false → count ≡ firstBarred names records text count
+unfolding firstBarred
+first-clean names records text count e =
+    let p : ℕ → Bool = λ i. recordBarred names records text i in
+    let start : count - 0 ≡ count = omega arith in
+    let f = rw start at (found p 0 count (omega arith)) in
+    let k = foundOr count (find p 0 count) in
+    ⊎-elim
+    (λ (h : k < count). absurd (true≢false (sym (f .passes h) ∙ clean-record names records text k e)))
+    (λ (h : count ≤ k). omega (arith, f .below))
+    (below-or k count)
 
 -- a sum only grows
 sum-more : (f : ℕ → ℕ) (k more : ℕ) → sumBelow f k ≤ sumBelow f (more + k)
@@ -84,19 +122,22 @@ module _ (names : Bool) (records : List ℕ) (count limit k sum : ℕ) where
       let g : sum ≡ sumBelow (λ i. partLength names records i) count = e ∙ ap (sumBelow (λ i. partLength names records i)) h in
       le-ltb limit _ (omega arith)
 
--- where the records are looked at, and where not
-module _ (names : Bool) (records text : List ℕ) (count : ℕ) where
-  pub sure-none : 65535 < length text → sureRecords names records text count ≡ 0
-  unfolding sureRecords
-  sure-none h = rw (lt-leb (length text) 65535 h)
-
-  pub sure-by : (b : Bool) → length text ≤ 65535 → b ≡ longerThan names records count (2 * length text + 2048)
-      → sureRecords names records text count ≡ cond b (foundOr count (find (λ k. recordBarred names records text k) 0 count)) 0
-  unfolding sureRecords
-  sure-by b h e =
-      ap₂ (λ (x y : Bool). cond (x && y) (foundOr count (find (λ k. recordBarred names records text k) 0 count)) 0) (le-leb (length text) 65535 h) (sym e)
-
 -- a record lies where all lie
 pub record-fits : (names : Bool) (k count size : ℕ) → k < count → recordSize names * count ≤ size → recordSize names * k + recordSize names ≤ size
 record-fits true k count size h l = omega arith
 record-fits false k count size h l = omega arith
+
+-- what an "if" on the records' kind gave
+pub given : {n x y : ℕ} (names : Bool) → ((names ≡ true) × (n ≡ x)) ⊎ ((names ≡ false) × (n ≡ y)) → n ≡ cond names x y
+given names (inl w) = rw (w .0) (w .1)
+given names (inr w) = rw (w .0) (w .1)
+
+-- where the text is seen to be clean, it is
+pub seen-clean : (names : Bool) (text : List ℕ) (count : ℕ) → seenClean names text count ≡ true → holdsBarred names text ≡ false
+unfolding seenClean
+seen-clean names text count e = not-true _ (both (leb (cond names (16 + length text / 64) (4 + length text / 32)) count) (not (holdsBarred names text)) e .1)
+
+-- where the text is marked, it is short
+pub marked-short : (names : Bool) (records text : List ℕ) (count : ℕ) → isMarked names records text count ≡ true → length text ≤ 65535
+unfolding isMarked
+marked-short names records text count e = leb-true (length text) 65535 (both (leb (length text) 65535) _ e .0)

@@ -24,8 +24,8 @@ Inv-loop nodes text c sure end sum₀ n₀ sum n =
 abbrev μ-loop : tie.MeasureT-loop
 μ-loop nodes text c sure end sum₀ n₀ sum n = end - n
 
-sure-bodies-requires : tie.Need-sure-bodies-requires Inv-loop μ-loop
-sure-bodies-requires c κs = c .before .before .pre
+sure-records-requires : tie.Need-sure-records-requires Inv-loop μ-loop
+sure-records-requires c κs = (c .before .before .pre .whole, c .before .before .pre .few)
 
 loop-holds : tie.Need-loop-holds Inv-loop μ-loop
 unfolding firstFailing countsBefore sumBelow
@@ -41,8 +41,8 @@ node-holds-requires : tie.Need-node-holds-requires Inv-loop μ-loop
 node-holds-requires c κs =
     let pre = c .before .before .before .before .before .before .pre in
     let loop = c .before .before .loop in
-    let sure-bodies = c .before .before .before .sure-bodies in
-    (pre, omega arith, c .node-kind .ensures .0, loop .inv .2, sure-bodies .ensures)
+    let sure-records = c .before .before .before .sure-records in
+    (pre, omega arith, c .node-kind .ensures .0, loop .inv .2, sure-records .ensures)
 
 returns : tie.Need-returns Inv-loop μ-loop
 unfolding rule4
@@ -113,7 +113,7 @@ first-bad-node-spec =
     (tie.spec
     Inv-loop
     μ-loop
-    sure-bodies-requires
+    sure-records-requires
     loop-holds
     node-kind-requires
     node-holds-requires

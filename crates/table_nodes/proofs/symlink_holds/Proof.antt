@@ -11,7 +11,8 @@ use Rattle.model.specs.Bytes.{contains}
 use Rattle.model.specs.Tree.{parentIn, firstIn, countIn}
 use Rattle.model.specs.TableCheck.{symlinkHolds}
 use Rattle.parts.specs.Parts.{nodesTree}
-use Rattle.table_nodes.proofs.BodyLaws.{body-test, sure-body}
+use Rattle.table_texts.proofs.SureLaws.{sure-body}
+use Rattle.table_nodes.proofs.BodyLaws.{body-test}
 use Rattle.table_nodes.proofs.symlink_holds.Statement.{statement}
 use Rattle.table_nodes.proofs.symlink_holds.Tie as tie
 
@@ -60,7 +61,7 @@ returns-5 c =
     let if1 = c .before .before .before .before .before .if1 in
     let t = nodesTree (a .c) (now (a .nodes)) (now (a .text)) in
     let top = sym (node-parent .ensures .0) ∙ if1 .left in
-    let clean = sure-body (a .c) (now (a .nodes)) (now (a .text)) (a .n) (omega (arith, p .3)) (p .2) (omega arith) in
+    let clean = sure-body (now (a .nodes)) (now (a .text)) (a .c .nodes) (a .n) (omega (arith, p .3)) (p .2) (omega arith) in
     sym (body-test t (a .n) top (omega arith) (omega arith) (omega arith) ∙ ap not clean)
 
 body-requires : tie.Need-body-requires

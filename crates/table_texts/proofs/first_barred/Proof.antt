@@ -1,65 +1,69 @@
--- `table_texts::first_barred` meets its contract. The loop's invariant: the first barred byte is the first from here on. Assumes nothing.
-use borrow.Author.Needs.{needs}
-use Prim.Native.Nat.{_-_, _≤_}
-use mathlib.Core.Path.{_≡_, refl, sym, _∙_}
-use native.Mathlib.Omega.{arith}
+-- `table_texts::first_barred` meets its contract, whichever way it goes. Assumes nothing.
+use Prim.Native.Nat.{_*_, _≤_}
+use mathlib.Core.Bool.{Bool}
+use mathlib.Core.Path.{sym, ap, _∙_, subst}
+use borrow.Author.Tests.{not-false}
+use lib.ListN.{length}
 use denote.Ref.{now}
-use Rattle.table_texts.specs.Marks.{firstFrom}
-use Rattle.table_texts.proofs.MarkLaws.{first-here, first-on, first-done}
+use Rattle.table_texts.specs.Barred.{recordSize, firstBarred}
+use Rattle.table_texts.proofs.RecordLaws.{first-clean, seen-clean, marked-short}
 use Rattle.table_texts.proofs.first_barred.Statement.{statement}
 use Rattle.table_texts.proofs.first_barred.Tie as tie
 
-abbrev Inv-loop : tie.InvT-loop
-Inv-loop text names at end i₀ i = (i ≤ end) × (firstFrom names text at end ≡ firstFrom names text i end)
+text-clean-requires : tie.Need-text-clean-requires
+text-clean-requires c κs = tt
 
-abbrev μ-loop : tie.MeasureT-loop
-μ-loop text names at end i₀ i = end - i
-
-loop-holds : tie.Need-loop-holds Inv-loop μ-loop
-loop-holds c = (omega arith, refl)
-
-shared-slice-read-is-barred : tie.Need-shared-slice-read-is-barred Inv-loop μ-loop
-shared-slice-read-is-barred c = search needs
-
-is-barred-requires : tie.Need-is-barred-requires Inv-loop μ-loop
-is-barred-requires c κs = search needs
-
-returns : tie.Need-returns Inv-loop μ-loop
+returns : tie.Need-returns
 returns c =
-    let a = c .before .before .before .before .before .before .args in
-    let l = c .before .before .before .before .loop in
-    sym (l .inv .1 ∙ first-here (a .names) (now (a .text)) (l .i) (a .end) (omega arith) (sym (c .before .is-barred .ensures) ∙ c .if1 .taken))
+    let a = c .before .before .before .before .args in
+    let clean = seen-clean (a .names) (now (a .text)) (a .count) (sym (c .before .text-clean .ensures) ∙ c .if1 .taken) in
+    first-clean (a .names) (now (a .records)) (now (a .text)) (a .count) clean
 
-add-i : tie.Need-add-i Inv-loop μ-loop
-add-i c = search needs
+is-marked-requires : tie.Need-is-marked-requires
+is-marked-requires c κs = c .before .before .before .before .pre
 
-loop-less : tie.Need-loop-less Inv-loop μ-loop
-loop-less c = omega arith
+first-read-requires : tie.Need-first-read-requires
+first-read-requires c κs = c .before .before .before .before .before .before .pre .0
 
-loop-again : tie.Need-loop-again Inv-loop μ-loop
-loop-again c =
-    let a = c .before .before .before .before .before .before .args in
-    let l = c .before .before .before .before .loop in
-    (omega arith, l .inv .1 ∙ first-on (a .names) (now (a .text)) (l .i) (a .end) (omega arith) (sym (c .before .is-barred .ensures) ∙ c .if1 .left))
+returns-2 : tie.Need-returns-2
+returns-2 c = c .first-read .ensures
 
-returns-2 : tie.Need-returns-2 Inv-loop μ-loop
-returns-2 c =
-    let a = c .before .before .before .args in
-    let l = c .before .loop in
-    let e : l .i ≡ a .end = omega arith in
-    e ∙ sym (l .inv .1 ∙ first-done (a .names) (now (a .text)) (l .i) (a .end) (omega arith))
+first-by-marks-requires : tie.Need-first-by-marks-requires
+first-by-marks-requires c κs =
+    let a = c .before .before .before .before .before .before .before .args in
+    let p = c .before .before .before .before .before .before .before .pre in
+    let marked = sym (c .before .before .is-marked .ensures) ∙ not-false _ (c .before .if2 .left) in
+    let room = subst (λ (b : Bool). recordSize b * a .count ≤ length (now (a .records))) (c .if3 .taken) (p .0) in
+    (marked-short (a .names) (now (a .records)) (now (a .text)) (a .count) marked, room)
+
+returns-3 : tie.Need-returns-3
+returns-3 c =
+    let a = c .before .before .before .before .before .before .before .before .args in
+    c .first-by-marks .ensures ∙ ap (λ (b : Bool). firstBarred b (now (a .records)) (now (a .text)) (a .count)) (sym (c .before .if3 .taken))
+
+first-by-marks-requires-2 : tie.Need-first-by-marks-requires-2
+first-by-marks-requires-2 c κs =
+    let a = c .before .before .before .before .before .before .before .args in
+    let p = c .before .before .before .before .before .before .before .pre in
+    let marked = sym (c .before .before .is-marked .ensures) ∙ not-false _ (c .before .if2 .left) in
+    let room = subst (λ (b : Bool). recordSize b * a .count ≤ length (now (a .records))) (c .if3 .left) (p .0) in
+    (marked-short (a .names) (now (a .records)) (now (a .text)) (a .count) marked, room)
+
+returns-4 : tie.Need-returns-4
+returns-4 c =
+    let a = c .before .before .before .before .before .before .before .before .args in
+    c .first-by-marks2 .ensures ∙ ap (λ (b : Bool). firstBarred b (now (a .records)) (now (a .text)) (a .count)) (sym (c .before .if3 .left))
 
 pub first-barred-spec : {M : Type 1} → statement M
 first-barred-spec =
     tie.close
     (tie.spec
-    Inv-loop
-    μ-loop
-    loop-holds
-    shared-slice-read-is-barred
-    is-barred-requires
+    text-clean-requires
     returns
-    add-i
-    loop-less
-    loop-again
-    returns-2)
+    is-marked-requires
+    first-read-requires
+    returns-2
+    first-by-marks-requires
+    returns-3
+    first-by-marks-requires-2
+    returns-4)

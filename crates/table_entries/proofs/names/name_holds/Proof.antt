@@ -2,17 +2,18 @@
 -- Assumes nothing.
 use borrow.Author.Needs.{needs}
 use Prim.Native.Nat.{_+_}
-use mathlib.Core.Bool.{not, and-false}
+use mathlib.Core.Bool.{true, not, and-false}
 use mathlib.Core.List.{[]}
 use mathlib.Core.Path.{ap, _∙_, sym}
 use native.Mathlib.Omega.{arith}
 use borrow.Author.Tests.{le-leb, lt-leb, ltb-true}
 use lib.ListN.{length}
 use denote.Ref.{now}
-use Rattle.model.specs.Bytes.{contains}
 use Rattle.theorems.proofs.PartLaws.{part-whole}
 use Rattle.parts.specs.Parts.{entriesTree}
-use Rattle.table_entries.proofs.NameLaws.{forbids, dots, name-test, sure-name}
+use Rattle.text_marks.specs.Barred.{holdsBarred}
+use Rattle.table_texts.proofs.SureLaws.{sure-name}
+use Rattle.table_entries.proofs.NameLaws.{dots, name-test}
 use Rattle.table_entries.proofs.names.name_holds.Statement.{statement}
 use Rattle.table_entries.proofs.names.name_holds.Tie as tie
 
@@ -51,14 +52,14 @@ holds-forbidden-requires c κs = λ k.
     let a = c .before .before .before .before .before .before .before .before .args in
     let p = c .before .before .before .before .before .before .before .before .pre in
     let n = c .name .ensures in
-    let h = sure-name (a .c) (now (a .entries)) (now (a .text)) (a .e) (omega (arith, p .2, ltb-true (a .e) (a .sure) k)) (omega arith) in
-    (ap (contains 0) n ∙ h .0, ap (contains 47) n ∙ h .1)
+    ap (holdsBarred true) n
+    ∙ sure-name (now (a .entries)) (now (a .text)) (a .c .entries) (a .e) (omega (arith, p .2, ltb-true (a .e) (a .sure) k)) (omega arith)
 
 returns-4 : tie.Need-returns-4
 returns-4 c =
     let a = c .before .before .before .before .before .before .before .before .before .before .args in
     let t = entriesTree (a .c) [] (now (a .entries)) (now (a .text)) in
-    let bad = ap forbids (sym (c .before .before .name .ensures)) ∙ sym (c .before .holds-forbidden .ensures) ∙ c .if4 .taken in
+    let bad = ap (holdsBarred true) (sym (c .before .before .name .ensures)) ∙ sym (c .before .holds-forbidden .ensures) ∙ c .if4 .taken in
     sym (name-test t (a .e) ∙ simp (bad, and-false))
 
 is-dots-requires : tie.Need-is-dots-requires
@@ -77,7 +78,7 @@ returns-5 c =
     let t = entriesTree (a .c) [] (now (a .entries)) (now (a .text)) in
     let at = t .nameOffset (a .e) in
     let l = t .nameLength (a .e) in
-    let good = ap forbids (sym (name .ensures)) ∙ sym (holds-forbidden .ensures) ∙ if4 .left in
+    let good = ap (holdsBarred true) (sym (name .ensures)) ∙ sym (holds-forbidden .ensures) ∙ if4 .left in
     ap not (c .is-dots .ensures ∙ ap dots (name .ensures))
     ∙ sym (name-test t (a .e)
     ∙ rw (le-leb (at + l) (t .textLength) (omega arith), le-leb 1 l (omega arith), le-leb l 255 (omega arith), good))

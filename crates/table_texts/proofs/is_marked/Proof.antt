@@ -1,0 +1,43 @@
+-- `table_texts::is_marked` meets its contract. Assumes nothing.
+use borrow.Author.Needs.{needs}
+use Prim.Native.Nat.{_+_, _/_}
+use mathlib.Core.Path.{_∙_}
+use native.Mathlib.Omega.{arith}
+use borrow.Author.Tests.{le-leb, lt-leb, lt-ltb, le-ltb}
+use lib.ListN.{length}
+use denote.Ref.{now}
+use Rattle.table_texts.specs.Barred.{isMarked}
+use Rattle.table_texts.proofs.is_marked.Statement.{statement}
+use Rattle.table_texts.proofs.is_marked.Tie as tie
+
+returns : tie.Need-returns
+unfolding isMarked
+returns c =
+    let a = c .before .before .before .args in
+    rw (lt-leb (length (now (a .text))) 65535 (omega arith))
+
+add-if2 : tie.Need-add-if2
+add-if2 c = search needs
+
+returns-2 : tie.Need-returns-2
+unfolding isMarked
+returns-2 c =
+    let a = c .before .before .before .before .args in
+    let n = length (now (a .text)) in
+    rw (le-leb n 65535 (omega arith), lt-ltb (256 + n / 64) (a .count) (omega arith))
+
+add-longer : tie.Need-add-longer
+add-longer c = search needs
+
+longer-requires : tie.Need-longer-requires
+longer-requires c κs = search needs
+
+returns-3 : tie.Need-returns-3
+unfolding isMarked
+returns-3 c =
+    let a = c .before .before .before .before .before .args in
+    let n = length (now (a .text)) in
+    c .longer .ensures ∙ rw (le-leb n 65535 (omega arith), le-ltb (256 + n / 64) (a .count) (omega arith))
+
+pub is-marked-spec : {M : Type 1} → statement M
+is-marked-spec = tie.close (tie.spec returns add-if2 returns-2 add-longer longer-requires returns-3)

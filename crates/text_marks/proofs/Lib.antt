@@ -1,0 +1,2 @@
+mod BlockLaws
+pub mod MarkLaws

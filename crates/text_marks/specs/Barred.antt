@@ -1,0 +1,20 @@
+-- Bytes that names and bodies may not hold.
+use Prim.Native.Nat.{ℕ, _-_}
+use mathlib.Core.Bool.{Bool, _&&_, _||_}
+use mathlib.Core.List.{List}
+use lib.Dec.{eqb}
+use lib.ListN.{getD}
+use Rattle.model.specs.Bytes.{contains, find}
+use Rattle.parts.specs.Searches.{foundOr}
+
+-- "no zero byte", and of names "no zero byte or "/""
+unfoldable pub holdsBarred : Bool → List ℕ → Bool
+holdsBarred names s = contains 0 s || (names && contains 47 s)
+
+-- a zero byte, and in names a slash
+unfoldable pub barred : Bool → ℕ → Bool
+barred names b = eqb b 0 || (names && eqb b 47)
+
+-- the first from `at` on, below `end`, else `end`
+unfoldable pub firstFrom : Bool → List ℕ → ℕ → ℕ → ℕ
+firstFrom names text at end = foundOr end (find (λ i. barred names (getD text i 0)) at (end - at))
