@@ -76,6 +76,30 @@ def of_shared_bodies(last=(301, 200), zero=300):
     return t.mount(0).image()
 
 
+def of_marked_bodies(zero, last):
+    """The same with 60 links over 601 letters with a zero byte: bodies of 200 bytes that end before it or begin after it, but for the last."""
+    t = Tree()
+    t.top()
+    text = bytearray(b"s" * 601)
+    text[zero] = 0
+    t.put(bytes(text))
+    for i in range(59):
+        t._node(SYMLINK, 0, (0 if zero >= 240 else 260) + i % 40, 200)
+    t._node(SYMLINK, 0, *last)
+    return t.mount(0).image()
+
+
+def of_marked_names(byte, last=(0, 200)):
+    """A top and a file with 200 names, entries 0 to 199, as above; the text is 200 letters, a byte and 100 letters."""
+    t = Tree()
+    t.top()
+    f = t.file()
+    t.put(b"n" * 200 + bytes([byte]) + b"n" * 100)
+    for length in range(1, 201):
+        t.names.setdefault(0, {})[b"n" * length] = (0, f)
+    return entry(t.mount(0).image(), 199, offset=last[0], length=last[1])
+
+
 def of_shared_names(byte, last=(0, 100)):
     """A top and a file with 100 names, entries 0 to 99: the first 1, 2 and so on to 100 bytes of one text, but for the last, which is as
     told. The text is 100 letters and a byte."""
@@ -327,6 +351,15 @@ check("rule-4-shared-short", of_shared_bodies((290, 10)), ACCEPTED, "the same, t
 check("rule-4-shared-short-zero", of_shared_bodies((295, 10)), broken(4, 40), "the same, the last ten bytes over it")
 check("rule-4-shared-beyond", of_shared_bodies((402, 200)), broken(4, 40), "the same, the last one byte beyond the text")
 check("rule-4-shared-first", of_shared_bodies((200, 200), 39), broken(4, 1), "the zero byte at 39: in nodes 1 and 3 and so on, and the last over none")
+for zero in [0, 7, 8, 56, 63, 64, 319, 320, 575, 576, 600]:
+    across = (max(zero - 9, 0), 10)
+    check(f"rule-4-marked-{zero}", of_marked_bodies(zero, across), broken(4, 60), f"60 bodies of one text, the last over its zero byte, at {zero}")
+    if zero >= 10:
+        check(f"rule-4-marked-{zero}-before", of_marked_bodies(zero, (zero - 10, 10)), ACCEPTED, "the same, the last the ten bytes before it")
+    if zero <= 590:
+        check(f"rule-4-marked-{zero}-after", of_marked_bodies(zero, (zero + 1, 10)), ACCEPTED, "the same, the last the ten bytes after it")
+check("rule-4-marked-far", of_marked_bodies(130, (60, 100)), broken(4, 60), "60 bodies of one text, the last 100 bytes, the zero byte 70 bytes in it")
+check("rule-4-marked-to-the-end", of_marked_bodies(130, (131, 470)), ACCEPTED, "the same, the last from the zero byte to the text's end")
 check("rule-4-body-zero-of-4095", in_text(of_body(4095), 4094, 0), broken(4, 1), "a zero byte last in a body of 4,095")
 
 # ---------------------------------------------------------------------------------------------------------------------------------
@@ -394,6 +427,11 @@ check("rule-5-shared-slash", of_shared_names(47, (1, 100)), broken(5, 99), "the 
 check("rule-5-shared-zero", of_shared_names(0, (1, 100)), broken(5, 99), "the same with a zero byte for the slash")
 check("rule-5-shared-slash-alone", of_shared_names(47, (100, 1)), broken(5, 99), "the same, the last the slash alone")
 check("rule-5-shared-letter", of_shared_names(111, (1, 100)), ACCEPTED, "the same with a letter for the slash")
+check("rule-5-marked", of_marked_names(47), ACCEPTED, "200 names of one text, none over the slash in it")
+check("rule-5-marked-slash", of_marked_names(47, (1, 200)), broken(5, 199), "the same, the last over it")
+check("rule-5-marked-zero", of_marked_names(0, (1, 200)), broken(5, 199), "the same with a zero byte for the slash")
+check("rule-5-marked-slash-first", of_marked_names(47, (200, 101)), broken(5, 199), "the same, the last from the slash on")
+check("rule-5-marked-letter", of_marked_names(111, (1, 250)), ACCEPTED, "the same with a letter for the slash, the last over it")
 
 # ---------------------------------------------------------------------------------------------------------------------------------
 group("The table check, rule 6", "Four mounts; mounts 1 and 2 hang in mount 0, mount 3 in mount 1.")
