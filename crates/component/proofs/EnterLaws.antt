@@ -8,10 +8,10 @@ use borrow.Author.Tests.{eqb-true}
 use Rattle.model.specs.Tree.{Tree, isDirectory, mountOn}
 use Rattle.model.specs.Walk.{stayAt, enterBy, enter}
 use Rattle.model.specs.declared.Place.{Place}
-use Rattle.theorems.specs.Acceptance.{MountsHold}
-use Rattle.theorems.proofs.Acceptance.{point-directory, mount-on-below}
-use Rattle.theorems.proofs.ByteLaws.{find-some}
-use Rattle.theorems.proofs.Cases.{both}
+use Rattle.laws.specs.Acceptance.{MountsHold}
+use Rattle.laws.proofs.Acceptance.{point-directory, mount-on-below}
+use Rattle.laws.proofs.ByteLaws.{find-some}
+use Rattle.laws.proofs.Cases.{both}
 
 point-is : (t : Tree) (p : Place) (m : ℕ) → mountOn t p ≡ some m → t .mountPoint m ≡ p .node
 unfolding mountOn

@@ -9,7 +9,7 @@ use Rattle.model.specs.Trace.{Restrictions, noSymlinks, forbidAny}
 use Rattle.model.specs.Walk.{Request, Step, magicLink, symbolicLink}
 use Rattle.model.specs.declared.Place.{Place}
 use Rattle.model.specs.declared.Errno.the-variants.{Eloop}
-use Rattle.theorems.proofs.Cases.{cond-cases}
+use Rattle.laws.proofs.Cases.{cond-cases}
 use Rattle.component.specs.Outcomes.{unlimited, outcome}
 use Rattle.component.proofs.RowLaws.{link-row}
 use Rattle.component.specs.declared.Outcome.the-variants.{Stop}

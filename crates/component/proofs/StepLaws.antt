@@ -7,8 +7,8 @@ use Rattle.model.specs.Tree.{Tree, isLink}
 use Rattle.model.specs.Trace.{Restrictions, forbidAny}
 use Rattle.model.specs.Walk.{Request, placeAt, magicLink, symbolicLink, followLink, stepTo}
 use Rattle.model.specs.declared.Place.{Place}
-use Rattle.theorems.specs.Acceptance.{MountsHold}
-use Rattle.theorems.proofs.EntryLaws.{not-directory}
+use Rattle.laws.specs.Acceptance.{MountsHold}
+use Rattle.laws.proofs.EntryLaws.{not-directory}
 use Rattle.component.specs.Outcomes.{outcome}
 use Rattle.component.specs.declared.Outcome.the-variants.{Go}
 use Rattle.component.proofs.EnterLaws.{not-entered}

@@ -5,7 +5,7 @@ use mathlib.Core.Path.{_≡_}
 use Rattle.model.specs.Tree.{treeOf}
 use Rattle.model.specs.TableCheck.{tableCheck}
 use Rattle.model.specs.declared.Verdict.the-variants.{Accepted}
-use Rattle.theorems.specs.Inside.{Inside}
+use Rattle.laws.specs.Inside.{Inside}
 use Rattle.image.specs.Counts.{Counted}
 use Rattle.parts.specs.declared.records.Counts.{Counts}
 use Rattle.component.specs.declared.Ask.{Ask}

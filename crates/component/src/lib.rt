@@ -18,7 +18,7 @@ ghost use mathlib.Core.Path.{_≡_};
 ghost use Prim.Native.Nat.{ℕ, _≤_, _<_};
 ghost use Rattle.model.specs.Tree.{treeOf, isDirectory};
 ghost use Rattle.model.specs.Walk.{stepTo, byName, oneComponent};
-ghost use Rattle.theorems.specs.Inside.{Inside};
+ghost use Rattle.laws.specs.Inside.{Inside};
 ghost use Rattle.component.specs.Outcomes.{requestFor, restrictionsFor, outcome, dotsOf};
 ghost use Rattle.component.specs.Walking.{Walking};
 

@@ -23,7 +23,7 @@ ghost use Rattle.model.specs.OpenHow.{NO-XDEV};
 ghost use Rattle.model.specs.Tree.{treeOf};
 ghost use Rattle.model.specs.Walk.{magicLink, symbolicLink, stepTo};
 ghost use Rattle.component.specs.Outcomes.{requestFor, restrictionsFor, outcome, unlimited};
-ghost use Rattle.theorems.specs.Acceptance.{Sized};
+ghost use Rattle.laws.specs.Acceptance.{Sized};
 ghost use Rattle.component.specs.Walking.{Walking};
 
 // Whether NO_XDEV bars the way between two mounts that are not the same.

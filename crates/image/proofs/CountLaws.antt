@@ -3,7 +3,7 @@ use Prim.Native.Nat.{ℕ}
 use mathlib.Core.List.{List}
 use mathlib.Core.Path.{_≡_, ap}
 use Rattle.model.specs.Tree.{treeOf}
-use Rattle.theorems.specs.Acceptance.{Sized}
+use Rattle.laws.specs.Acceptance.{Sized}
 use Rattle.image.specs.Counts.{countsOf, Counted}
 use Rattle.parts.specs.declared.records.Counts.{Counts}
 

@@ -3,7 +3,7 @@ use Prim.Native.Nat.{ℕ, _^_, _<_}
 use mathlib.Core.List.{List}
 use mathlib.Core.Path.{_≡_}
 use Rattle.model.specs.Tree.{sizesOf, treeOf}
-use Rattle.theorems.specs.Acceptance.{Sized}
+use Rattle.laws.specs.Acceptance.{Sized}
 use Rattle.parts.specs.declared.records.Counts.{Counts}
 
 abbrev pub countsOf : List ℕ → Counts

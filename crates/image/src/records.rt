@@ -7,7 +7,7 @@ ghost use mathlib.Core.Path.{_≡_};
 ghost use Prim.Native.Nat.{ℕ, _+_, _*_, _^_, _≤_, _<_};
 ghost use lib.ListN.{length};
 ghost use Rattle.model.specs.Tree.{sizesOf, mountsAt, entriesAt, textAt, treeOf};
-ghost use Rattle.theorems.specs.Acceptance.{Sized};
+ghost use Rattle.laws.specs.Acceptance.{Sized};
 ghost use Rattle.image.specs.Counts.{countsOf, Counted};
 
 // The header's counts: where mounts, entries and text begin follows from them.

@@ -6,7 +6,7 @@ ghost use mathlib.Core.Path.{_≡_};
 ghost use Prim.Native.Nat.{_+_};
 ghost use lib.ListN.{length};
 ghost use Rattle.model.specs.Tree.{sizesOf, textAt, nodesPart, mountsPart, entriesPart, textPart, treeOf};
-ghost use Rattle.theorems.specs.Acceptance.{Sized};
+ghost use Rattle.laws.specs.Acceptance.{Sized};
 ghost use Rattle.image.specs.Counts.{Counted};
 
 pub fn nodes<'a>(image: &'a [u8]) -> &'a [u8]

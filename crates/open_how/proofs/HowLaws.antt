@@ -13,8 +13,8 @@ use Rattle.model.specs.Answers.{refuseIf}
 use Rattle.model.specs.OpenHow.{flagsOf, modeOf, paddingOf, resolveOf, knownFlags, knownResolve, unknownBit, refuseUnknown, tailSet, bothScopes, modeSet, howRefused, BENEATH, IN-ROOT}
 use Rattle.model.specs.declared.Refusal.{Refusal}
 use Rattle.model.specs.declared.Errno.the-variants.{Einval, E2big}
-use Rattle.theorems.proofs.ByteLaws.{field-split}
-use Rattle.theorems.proofs.Refusals.{passes}
+use Rattle.laws.proofs.ByteLaws.{field-split}
+use Rattle.laws.proofs.Refusals.{passes}
 use Rattle.open_how.specs.Checks.{lengthRefused, fieldsOf}
 use Rattle.open_how.proofs.CheckLaws.{refuse-then, unknown-then}
 

@@ -4,7 +4,7 @@ use mathlib.Core.Bool.{Bool, true, false, _||_, or-true, or-false}
 use mathlib.Core.Path.{_≡_, refl}
 use native.Mathlib.Omega.{arith}
 use Rattle.model.specs.Bytes.{find, isSome}
-use Rattle.theorems.proofs.ByteLaws.{find-here, find-on, find-done}
+use Rattle.laws.proofs.ByteLaws.{find-here, find-on, find-done}
 
 -- a search is the same where its tests are, in its range
 pub find-same : (p q : ℕ → Bool) (at count : ℕ) → ((i : ℕ) → at ≤ i → i < at + count → p i ≡ q i) → find p at count ≡ find q at count

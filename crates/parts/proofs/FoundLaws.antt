@@ -5,7 +5,7 @@ use mathlib.Core.Option.{Option, none, some}
 use mathlib.Core.Path.{_≡_, refl, sym, ap, _∙_, subst}
 use native.Mathlib.Omega.{arith}
 use Rattle.model.specs.Bytes.{find}
-use Rattle.theorems.proofs.ByteLaws.{find-none, find-some, find-here, find-on, find-done}
+use Rattle.laws.proofs.ByteLaws.{find-none, find-some, find-here, find-on, find-done}
 use Rattle.parts.specs.Searches.{foundOr}
 
 -- one number at a time

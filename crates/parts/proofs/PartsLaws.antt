@@ -3,8 +3,8 @@ use Prim.Native.Nat.{ℕ}
 use mathlib.Core.List.{List}
 use Rattle.model.specs.Tree.{isDirectory}
 use Rattle.model.specs.TableCheck.{directoryCount, countsBefore, directoryHolds}
-use Rattle.theorems.specs.Acceptance.{DirectoriesHold}
-use Rattle.theorems.specs.Held.{Held}
+use Rattle.laws.specs.Acceptance.{DirectoriesHold}
+use Rattle.laws.specs.Held.{Held}
 use Rattle.parts.specs.Parts.{partsTree}
 use Rattle.parts.specs.declared.records.Counts.{Counts}
 

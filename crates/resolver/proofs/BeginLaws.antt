@@ -14,8 +14,8 @@ use Rattle.model.specs.Walk.{finish, walk, beginAt}
 use Rattle.model.specs.Step.{answerFrom}
 use Rattle.model.specs.declared.Place.{Place}
 use Rattle.model.specs.declared.State.{State}
-use Rattle.theorems.proofs.Bounds.{components-few}
-use Rattle.theorems.specs.Inside.{Inside}
+use Rattle.laws.proofs.ComponentLaws.{components-few}
+use Rattle.laws.specs.Inside.{Inside}
 use Rattle.theorems.proofs.Steps.{walk-on-with}
 use Rattle.text.specs.Positions.{Stands, slashes, left}
 use Rattle.text.specs.Texts.{textOf}

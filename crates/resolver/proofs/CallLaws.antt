@@ -17,11 +17,11 @@ use Rattle.model.specs.declared.Verdict.the-variants.{Broken}
 use Rattle.model.specs.Handles.{placeOf}
 use Rattle.model.specs.Tree.{treeOf}
 use Rattle.model.specs.Walk.{rootOf, walkPath}
-use Rattle.theorems.proofs.Acceptance.{accepted-sound}
-use Rattle.theorems.proofs.Cases.{cond-cases}
-use Rattle.theorems.specs.Inside.{Inside}
-use Rattle.theorems.proofs.Inside.{root-inside}
-use Rattle.theorems.proofs.Refusals.{unrefused, path-short, handle-inside}
+use Rattle.laws.proofs.Acceptance.{accepted-sound}
+use Rattle.laws.proofs.Cases.{cond-cases}
+use Rattle.laws.specs.Inside.{Inside}
+use Rattle.laws.proofs.Inside.{root-inside}
+use Rattle.laws.proofs.Refusals.{unrefused, path-short, handle-inside}
 use Rattle.parts.specs.declared.records.Counts.{Counts}
 use Rattle.component.specs.Walking.{Reading, Walking}
 use Rattle.component.specs.declared.Ask.{Ask}

@@ -42,7 +42,7 @@ ghost use Rattle.model.specs.Answers.{progressOf};
 ghost use Rattle.model.specs.Resolve.{resolve};
 ghost use Rattle.model.specs.declared.Verdict.the-variants.{Accepted};
 ghost use Rattle.theorems.specs.Bounded.{Bounded};
-ghost use Rattle.theorems.specs.Inside.{Inside};
+ghost use Rattle.laws.specs.Inside.{Inside};
 ghost use Rattle.component.specs.Outcomes.{requestFor, restrictionsFor};
 ghost use Rattle.component.specs.Walking.{Reading, Walking};
 ghost use Rattle.resolver.specs.Asking.{rootFor, askOf};

@@ -11,7 +11,7 @@ use Rattle.model.specs.Walk.{Request, finish}
 use Rattle.model.specs.declared.State.{State}
 use Rattle.model.specs.declared.Errno.the-variants.{Enotdir, Eloop}
 use Rattle.model.specs.declared.Answer.the-variants.{Found}
-use Rattle.theorems.proofs.EntryLaws.{is-directory, not-directory}
+use Rattle.laws.proofs.EntryLaws.{is-directory, not-directory}
 
 three-or-four : (k : ℕ) → 3 ≤ k → k ≤ 4 → (eqb k 3 || eqb k 4) ≡ true
 three-or-four k low high = by (eqb k 3) refl

@@ -15,7 +15,7 @@ ghost use Prim.Native.Nat.{ℕ, _<_};
 ghost use Rattle.model.specs.Tree.{treeOf};
 ghost use Rattle.model.specs.Answers.{refused};
 ghost use Rattle.model.specs.Walk.{taken, standingOn, followedTo, finish};
-ghost use Rattle.theorems.specs.Inside.{Inside};
+ghost use Rattle.laws.specs.Inside.{Inside};
 ghost use Rattle.component.specs.Outcomes.{requestFor};
 ghost use Rattle.component.specs.Walking.{Walking};
 

@@ -12,9 +12,9 @@ use lib.Dec.{eqb, ltb}
 use lib.ListN.{length, getD, drop}
 use lib.Seq.{ext-getD}
 use Rattle.model.specs.Bytes.{field, sameBytes, before}
-use Rattle.theorems.proofs.ByteLaws.{field-ext, field-same, field-split}
-use Rattle.theorems.proofs.Cases.{below-or, cond-cases}
-use Rattle.theorems.proofs.StringLaws.{same-equal, equal-same, before-next, before-short, before-ended}
+use Rattle.laws.proofs.ByteLaws.{field-ext, field-same, field-split}
+use Rattle.laws.proofs.Cases.{below-or, cond-cases}
+use Rattle.laws.proofs.StringLaws.{same-equal, equal-same, before-next, before-short, before-ended}
 use Rattle.strings.specs.Blocks.{bigEndian, SameTo, Deciding, differ, firstDiffering}
 
 abbrev pub Bytes : List ℕ → Type 0

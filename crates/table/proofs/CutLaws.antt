@@ -5,8 +5,8 @@ use mathlib.Core.Path.{_≡_, ap, _∙_}
 use native.Mathlib.Omega.{arith}
 use lib.ListN.{length}
 use Rattle.model.specs.Tree.{sizesOf, nodesPart, mountsPart, entriesPart, textPart, treeOfParts, treeOf}
-use Rattle.theorems.specs.Acceptance.{Sized}
-use Rattle.theorems.proofs.PartLaws.{nodes-length, mounts-length, entries-length, text-length}
+use Rattle.laws.specs.Acceptance.{Sized}
+use Rattle.laws.proofs.PartLaws.{nodes-length, mounts-length, entries-length, text-length}
 use Rattle.parts.specs.Parts.{partsTree, NodeRecords, MountRecords, EntryRecords}
 use Rattle.parts.specs.declared.records.Counts.{Counts}
 use Rattle.image.specs.Counts.{countsOf, Counted}

@@ -8,7 +8,7 @@ use Rattle.model.specs.Tree.{isDirectory, holds, under}
 use Rattle.model.specs.TableCheck.{directoryCount, countsBefore, directoryHolds, fileHolds, symlinkHolds, magicHolds, nodeHolds, rule4}
 use Rattle.model.specs.TableCheck.{nameHolds, follows, ascends, standsInParent, entryHolds, rule5}
 use Rattle.model.specs.TableCheck.{pointHolds, sharesPoint, hangs, mountHolds, rule6, targetHolds, magicTargetHolds, rule7}
-use Rattle.theorems.proofs.ByteLaws.{find-alike}
+use Rattle.laws.proofs.ByteLaws.{find-alike}
 use Rattle.parts.specs.Parts.{partsTree, nodesTree, entriesTree, mountsTree}
 use Rattle.parts.specs.declared.records.Counts.{Counts}
 

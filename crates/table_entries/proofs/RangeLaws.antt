@@ -13,12 +13,12 @@ use lib.Dec.{eqb, ltb}
 use Rattle.model.specs.Bytes.{before, find, firstFailing, orElse}
 use Rattle.model.specs.Tree.{Tree, kindIn, firstIn, countIn, nameIn}
 use Rattle.model.specs.TableCheck.{directoryCount, sumBelow, countsBefore, nameHolds, ascends, standsInParent, entryHolds, rule5}
-use Rattle.theorems.specs.Acceptance.{DirectoriesHold}
-use Rattle.theorems.specs.Held.{Held}
-use Rattle.theorems.proofs.Acceptance.{first-sum, counts-grow, counts-next, entries-inside, name-holds-facts}
-use Rattle.theorems.proofs.ByteLaws.{find-append, find-done}
-use Rattle.theorems.proofs.Cases.{both}
-use Rattle.theorems.proofs.EntryLaws.{is-directory, first-ascends, later-ascends}
+use Rattle.laws.specs.Acceptance.{DirectoriesHold}
+use Rattle.laws.specs.Held.{Held}
+use Rattle.laws.proofs.Acceptance.{first-sum, counts-grow, counts-next, entries-inside, name-holds-facts}
+use Rattle.laws.proofs.ByteLaws.{find-append, find-done}
+use Rattle.laws.proofs.Cases.{both}
+use Rattle.laws.proofs.EntryLaws.{is-directory, first-ascends, later-ascends}
 use Rattle.parts.specs.Parts.{entriesTree, EntryRecords}
 use Rattle.parts.specs.declared.records.Counts.{Counts}
 use Rattle.table_entries.specs.Given.{Named}

@@ -3,7 +3,7 @@ use Prim.Native.Nat.{ℕ, _+_, _*_, _≤_}
 use mathlib.Core.List.{List}
 use lib.ListN.{length}
 use Rattle.model.specs.Tree.{nameOffsetIn, nameLengthIn}
-use Rattle.theorems.specs.Acceptance.{DirectoriesHold}
+use Rattle.laws.specs.Acceptance.{DirectoriesHold}
 use Rattle.parts.specs.Parts.{entriesTree, NodeRecords, EntryRecords}
 use Rattle.parts.specs.declared.records.Counts.{Counts}
 

@@ -19,7 +19,7 @@ ghost use mathlib.Core.Path.{_≡_};
 ghost use Prim.Native.Nat.{_-_, _<_};
 ghost use Rattle.model.specs.Tree.{isDirectory, firstIn, countIn, entryNodeIn};
 ghost use Rattle.model.specs.TableCheck.{nameHolds, standsInParent, entryHolds, rule5};
-ghost use Rattle.theorems.specs.Held.{Held};
+ghost use Rattle.laws.specs.Held.{Held};
 ghost use Rattle.parts.specs.Parts.{entriesTree, NodeRecords};
 ghost use Rattle.parts.specs.Searches.{searchOf};
 ghost use Rattle.table_entries.specs.Given.{Given, Named};

@@ -8,10 +8,10 @@ use borrow.Author.Tests.{eq-eqb, ne-eqb, lt-ltb, le-ltb, eqb-true, eqb-false, lt
 use lib.Dec.{eqb, ltb}
 use Rattle.model.specs.Bytes.{find}
 use Rattle.model.specs.Tree.{Tree, isDirectory, under}
-use Rattle.theorems.specs.Acceptance.{DirectoriesHold}
-use Rattle.theorems.proofs.Acceptance.{parent-directory}
-use Rattle.theorems.proofs.ByteLaws.{find-on}
-use Rattle.theorems.proofs.UnderLaws.{under-parent, under-self}
+use Rattle.laws.specs.Acceptance.{DirectoriesHold}
+use Rattle.laws.proofs.Acceptance.{parent-directory}
+use Rattle.laws.proofs.ByteLaws.{find-on}
+use Rattle.laws.proofs.UnderLaws.{under-parent, under-self}
 use Rattle.table_leads.specs.Climbs.{climbed, stepsAfter, unseenFrom}
 use Rattle.parts.specs.Searches.{foundOr}
 use Rattle.table_leads.specs.Leads.{leadBy, keeps, brokenFrom}

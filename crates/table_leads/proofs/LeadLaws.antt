@@ -8,7 +8,7 @@ use lib.Dec.{eqb, ltb}
 use Rattle.model.specs.Bytes.{find}
 use Rattle.model.specs.Tree.{Tree, byKind, isDirectory, under}
 use Rattle.model.specs.TableCheck.{pointHolds, sharesPoint, hangs, mountHolds, targetHolds, magicTargetHolds}
-use Rattle.theorems.proofs.Cases.{both}
+use Rattle.laws.proofs.Cases.{both}
 use Rattle.table_leads.specs.Leads.{pointLead, hangsLead, mountLead, linkLead, leadBy, settled, keeps}
 use Rattle.table_leads.specs.declared.Lead.{Lead}
 use Rattle.table_leads.specs.declared.Lead.the-variants.{Settled, Into, Dangling}

@@ -15,7 +15,7 @@ ghost use mathlib.Core.List.{[]};
 ghost use mathlib.Core.Path.{_≡_};
 ghost use Prim.Native.Nat.{_-_, _≤_, _<_};
 ghost use Rattle.model.specs.Tree.{isDirectory, parentIn};
-ghost use Rattle.theorems.specs.Acceptance.{DirectoriesHold};
+ghost use Rattle.laws.specs.Acceptance.{DirectoriesHold};
 ghost use Rattle.parts.specs.Parts.{mountsTree, NodeRecords, MountRecords};
 ghost use Rattle.table_leads.specs.Leads.{pointLead, hangsLead, mountLead, linkLead, counted, leadBy, settled};
 ghost use Rattle.table_leads.specs.Climbs.{climbed, stepsAfter, budget, unseenFrom};

@@ -12,7 +12,7 @@ use lib.Seq.{getD-set-same, getD-set-other}
 use Rattle.model.specs.Bytes.{isSome}
 use Rattle.model.specs.Tree.{mountParentIn, mountPointIn}
 use Rattle.model.specs.TableCheck.{sharesPoint}
-use Rattle.theorems.proofs.ByteLaws.{find-absent}
+use Rattle.laws.proofs.ByteLaws.{find-absent}
 use Rattle.table_mounts.specs.Clashes.{uncounted, slotOf, Noted}
 
 -- before any other mount

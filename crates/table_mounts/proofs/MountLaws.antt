@@ -10,8 +10,8 @@ use lib.Dec.{eqb}
 use Rattle.model.specs.Bytes.{find, firstFailing}
 use Rattle.model.specs.Tree.{Tree, isDirectory}
 use Rattle.model.specs.TableCheck.{sharesPoint, mountHolds, rule6}
-use Rattle.theorems.proofs.ByteLaws.{find-absent, find-here, find-later}
-use Rattle.theorems.proofs.Cases.{below-or}
+use Rattle.laws.proofs.ByteLaws.{find-absent, find-here, find-later}
+use Rattle.laws.proofs.Cases.{below-or}
 use Rattle.parts.specs.Parts.{mountsTree}
 use Rattle.parts.specs.declared.records.Counts.{Counts}
 use Rattle.table_leads.specs.Leads.{hangsLead, mountLead, settled, keeps, brokenFrom}

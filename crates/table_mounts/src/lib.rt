@@ -14,7 +14,7 @@ ghost use mathlib.Core.Path.{_≡_};
 ghost use Prim.Native.Nat.{_+_, _*_, _≤_, _<_};
 ghost use lib.ListN.{length};
 ghost use Rattle.model.specs.TableCheck.{sharesPoint, rule6};
-ghost use Rattle.theorems.specs.Acceptance.{DirectoriesHold};
+ghost use Rattle.laws.specs.Acceptance.{DirectoriesHold};
 ghost use Rattle.parts.specs.Parts.{mountsTree, NodeRecords, MountRecords};
 ghost use Rattle.parts.specs.Searches.{searchOf};
 ghost use Rattle.table_leads.specs.Leads.{brokenFrom};

@@ -9,7 +9,7 @@ use borrow.Author.Tests.{not-false}
 use Rattle.model.specs.Bytes.{find, firstFailing}
 use Rattle.model.specs.Tree.{Tree}
 use Rattle.model.specs.TableCheck.{magicTargetHolds, rule7}
-use Rattle.theorems.proofs.ByteLaws.{find-alike, find-later}
+use Rattle.laws.proofs.ByteLaws.{find-alike, find-later}
 use Rattle.parts.specs.Parts.{mountsTree}
 use Rattle.parts.specs.declared.records.Counts.{Counts}
 use Rattle.parts.specs.Searches.{foundOr}

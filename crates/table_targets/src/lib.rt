@@ -11,7 +11,7 @@ ghost use mathlib.Core.Bool.{true};
 ghost use mathlib.Core.Path.{_≡_};
 ghost use mathlib.Core.List.{[]};
 ghost use Rattle.model.specs.TableCheck.{rule7};
-ghost use Rattle.theorems.specs.Acceptance.{DirectoriesHold};
+ghost use Rattle.laws.specs.Acceptance.{DirectoriesHold};
 ghost use Rattle.parts.specs.Parts.{mountsTree, NodeRecords, MountRecords};
 ghost use Rattle.parts.specs.Searches.{searchOf};
 ghost use Rattle.table_leads.specs.Leads.{brokenFrom};

@@ -13,7 +13,7 @@ use Rattle.model.specs.TableCheck.{sumBelow}
 use Rattle.parts.specs.Searches.{foundOr}
 use Rattle.parts.proofs.FoundLaws.{found, found-here, found-on, found-done}
 use Rattle.strings.proofs.PartLaws.{neither, not-in-part}
-use Rattle.theorems.proofs.Cases.{below-or, both}
+use Rattle.laws.proofs.Cases.{below-or, both}
 use Rattle.text_marks.specs.Barred.{holdsBarred}
 use Rattle.table_texts.specs.Barred.{recordSize, partStart, partLength, recordBarred, firstBarred, seenClean, longerThan, isMarked}
 

@@ -5,8 +5,8 @@ use mathlib.Core.Path.{_≡_, sym, ap}
 use borrow.Author.Tests.{ltb-true}
 use lib.Dec.{eqb, ltb}
 use Rattle.model.specs.Tree.{Tree, isDirectory}
-use Rattle.theorems.proofs.ByteLaws.{find-here, find-on, find-done}
-use Rattle.theorems.proofs.Cases.{both}
+use Rattle.laws.proofs.ByteLaws.{find-here, find-on, find-done}
+use Rattle.laws.proofs.Cases.{both}
 use Rattle.parts.specs.Searches.{foundOr}
 use Rattle.table_leads.specs.Leads.{leadBy, keeps, brokenFrom}
 use Rattle.table_leads.specs.declared.Lead.the-variants.{Into}

@@ -13,10 +13,10 @@ use lib.Dec.{eqb, ltb}
 use lib.ListN.{length, getD, set, length-set, length-replicate}
 use lib.Seq.{getD-set-same, getD-set-other}
 use Rattle.model.specs.Tree.{Tree, isDirectory, under}
-use Rattle.theorems.specs.Acceptance.{DirectoriesHold}
-use Rattle.theorems.proofs.Acceptance.{directory-below, parent-directory, parent-le}
-use Rattle.theorems.proofs.Cases.{below-or, cond-cases}
-use Rattle.theorems.proofs.UnderLaws.{under-parent, under-top, under-low}
+use Rattle.laws.specs.Acceptance.{DirectoriesHold}
+use Rattle.laws.proofs.Acceptance.{directory-below, parent-directory, parent-le}
+use Rattle.laws.proofs.Cases.{below-or, cond-cases}
+use Rattle.laws.proofs.UnderLaws.{under-parent, under-top, under-low}
 use Rattle.table_under.specs.Rows.{bitOf, setBit, copyWords, Chart, chart, rowAbove, rootRow, passTo, passDown, Fitting, Rooted, Numbered, within, Charted}
 use Rattle.table_under.proofs.RowLaws.{blank, zeros, same-test, blank-clear, length-copied, copied-bit, copied-else, length-set-bit, set-bit, set-bit-else}
 

@@ -13,7 +13,7 @@ use lib.ListN.{length, getD, set, replicate, length-set}
 use lib.Pow.{shl-exact}
 use lib.Seq.{getD-set-same, getD-set-other}
 use Rattle.model.specs.Bytes.{has}
-use Rattle.theorems.proofs.BitLaws.{has-or, has-pow}
+use Rattle.laws.proofs.BitLaws.{has-or, has-pow}
 use Rattle.table_under.specs.Rows.{wordOf, bitOf, setBit, copyWords}
 
 -- the list that has 0 at each place

@@ -9,7 +9,7 @@ ghost use mathlib.Core.Path.{_≡_};
 ghost use Prim.Native.Nat.{_+_, _*_, _≤_, _<_};
 ghost use lib.ListN.{length};
 ghost use Rattle.model.specs.Tree.{parentIn, mountRootIn};
-ghost use Rattle.theorems.specs.Acceptance.{DirectoriesHold};
+ghost use Rattle.laws.specs.Acceptance.{DirectoriesHold};
 ghost use Rattle.parts.specs.Parts.{mountsTree, NodeRecords, MountRecords};
 ghost use Rattle.table_leads.specs.Leads.{counted, leadBy, keeps, brokenFrom};
 ghost use Rattle.table_under.specs.Rows.{bitOf, setBit, copyWords, chart, rowAbove, passTo, passDown, Fitting, Rooted, Numbered, within, Charted};

@@ -14,8 +14,8 @@ use borrow.Author.Tests.{eq-eqb, ne-eqb, eqb-true}
 use Rattle.model.specs.Bytes.{contains}
 use Rattle.model.specs.Path.{Component, isSlash, upToSlash, componentsFrom, components}
 use Rattle.model.specs.Walk.{isEmpty}
-use Rattle.theorems.proofs.Cases.{cond-cases}
-use Rattle.theorems.proofs.Bounds.{components-from-few}
+use Rattle.laws.proofs.Cases.{cond-cases}
+use Rattle.laws.proofs.ComponentLaws.{components-from-few}
 use Rattle.text.specs.Positions.{slashes, pastSlashes, componentEnd, nextStart, componentBytes, componentAt, Stands, left}
 
 -- the bytes of a list before its first slash, by its first byte

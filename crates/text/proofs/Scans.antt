@@ -7,7 +7,7 @@ use native.Mathlib.Omega.{arith}
 use lib.ListN.{length, getD, drop-of-length-le}
 use borrow.Author.Tests.{eq-eqb, ne-eqb}
 use Rattle.model.specs.Path.{isSlash, upToSlash, absolute, endsInSlash}
-use Rattle.theorems.proofs.StringLaws.{next}
+use Rattle.laws.proofs.StringLaws.{next}
 use Rattle.text.specs.Positions.{slashes, pastSlashes, componentEnd}
 
 module _ (s : List ℕ) (at : ℕ) where

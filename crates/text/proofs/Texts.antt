@@ -6,8 +6,8 @@ use native.Mathlib.Omega.{arith}
 use borrow.Author.Tests.{eq-eqb, ne-eqb}
 use Rattle.model.specs.Tree.{Tree}
 use Rattle.model.specs.Path.{givenPath}
-use Rattle.theorems.specs.Acceptance.{NodesHold}
-use Rattle.theorems.proofs.Acceptance.{symlink-facts}
+use Rattle.laws.specs.Acceptance.{NodesHold}
+use Rattle.laws.proofs.Acceptance.{symlink-facts}
 use Rattle.text.specs.Texts.{textOf, Readable}
 
 pub text-path : (t : Tree) (path : List ℕ) (text : ℕ) → text ≡ givenPath → textOf t path text ≡ path

@@ -11,7 +11,7 @@ use lib.Dec.{eqb}
 use lib.ListN.{length, getD}
 use lib.Pow.{pow-mono}
 use Rattle.model.specs.Bytes.{part, contains}
-use Rattle.theorems.proofs.StringLaws.{next}
+use Rattle.laws.proofs.StringLaws.{next}
 use Rattle.text_marks.specs.Barred.{barred}
 use Rattle.text_marks.specs.Marks.{digit, marksOf, blockEnd, blockMarks}
 

@@ -14,8 +14,8 @@ use lib.Pow.{shr-shr}
 use lib.Seq.{getD-drop, getD-set-same, getD-set-other}
 use Rattle.model.specs.Bytes.{part, contains}
 use Rattle.parts.proofs.FoundLaws.{Found, found, found-here, found-on, found-done}
-use Rattle.theorems.proofs.Cases.{below-or, cond-cases}
-use Rattle.theorems.proofs.StringLaws.{contains-next, contains-end}
+use Rattle.laws.proofs.Cases.{below-or, cond-cases}
+use Rattle.laws.proofs.StringLaws.{contains-next, contains-end}
 use Rattle.text_marks.specs.Barred.{holdsBarred, barred, firstFrom}
 use Rattle.text_marks.specs.Marks.{digit, marksOf, blockEnd, blockMarks, firstOf, MarkedFrom}
 

@@ -1,6 +1,6 @@
 -- "At most 40 links are followed and at most 83,968 components taken (41 texts of at most 2,048).", whatever the bytes. Assumes nothing.
-use Prim.Native.Nat.{ℕ, zero, suc, _+_, _-_, _*_, _≤_, _<_}
-use mathlib.Core.Bool.{Bool, true, false, not, _&&_, _||_}
+use Prim.Native.Nat.{ℕ, zero, suc, _-_, _≤_, _<_}
+use mathlib.Core.Bool.{Bool, not, _&&_, _||_}
 use mathlib.Core.List.{List, [], _∷_, _++_}
 use mathlib.Core.Option.{Option, none, some}
 use mathlib.Core.Path.{_≡_, refl, sym, subst}
@@ -11,7 +11,7 @@ use Rattle.model.specs.Bytes.{has}
 use Rattle.model.specs.Tree.{Tree, treeOf, isDirectory, isLink}
 use Rattle.model.specs.Answers.{progressOf, notWalked}
 use Rattle.model.specs.OpenHow.{flagsOf, resolveOf, IN-ROOT, O-DIRECTORY}
-use Rattle.model.specs.Path.{Component, isSlash, consIf, upToSlash, componentsFrom, components, absolute, endsInSlash, givenPath}
+use Rattle.model.specs.Path.{Component, components, absolute, endsInSlash, givenPath}
 use Rattle.model.specs.Handles.{placeOf}
 use Rattle.model.specs.Trace.{Event, Restrictions, Trace, stop, meet, stand, meets, forbids, refusedBy, answer}
 use Rattle.model.specs.Walk.{Request, rootOf, Landing, outside, target, reading, Step, fail, go, follow, oneComponent, taken, finish, isEmpty, Turn, refuses, went, followed, Transition}
@@ -25,33 +25,14 @@ use Rattle.model.specs.declared.Refusal.{Refusal}
 use Rattle.model.specs.declared.Errno.{Errno}
 use Rattle.model.specs.declared.Answer.{Answer}
 use Rattle.theorems.specs.Bounded.{Bounded, EveryWalk}
-use Rattle.theorems.specs.Inside.{Inside}
+use Rattle.laws.specs.Inside.{Inside}
 use Rattle.theorems.specs.Ordered.{Room}
-use Rattle.theorems.proofs.Cases.{cond-cases}
-use Rattle.theorems.specs.Acceptance.{Sound}
-use Rattle.theorems.proofs.Acceptance.{accepted-sound, body-small}
-use Rattle.theorems.proofs.Inside.{root-inside, LandingInside, StepInside, one-component-inside}
-use Rattle.theorems.proofs.Refusals.{unrefused, path-short, handle-inside, Uncounted, before-uncounted}
-
--- A text has at most one component for each two bytes, and one more where it may begin with one. One byte, by whether it is a slash;
--- the components after it are given for both cases.
-few-step : (slash : Bool) (c : Component) (later : Bool → List Component) (n : ℕ)
-    → 2 * length (later true) ≤ n + 1 → 2 * length (later false) ≤ n
-    → (2 * length (consIf (true && not slash) c (later slash)) ≤ suc n + 1) × (2 * length (consIf (false && not slash) c (later slash)) ≤ suc n)
-few-step true c later n fresh inside = (omega arith, omega arith)
-few-step false c later n fresh inside = (omega arith, omega arith)
-
-pub components-from-few : (text at : ℕ) (s : List ℕ)
-    → (2 * length (componentsFrom text at true s) ≤ length s + 1) × (2 * length (componentsFrom text at false s) ≤ length s)
-unfolding componentsFrom
-components-from-few text at [] = (lit≤ tt, lit≤ tt)
-components-from-few text at (b ∷ s) =
-    let later = components-from-few text (at + 1) s in
-    few-step (isSlash b) (record { bytes = upToSlash (b ∷ s); text = text; start = at }) (λ f. componentsFrom text (at + 1) f s) (length s) (later .0) (later .1)
-
-pub components-few : (text : ℕ) (s : List ℕ) → length s ≤ 4095 → length (components text s) ≤ 2048
-unfolding components
-components-few text s h = let f = components-from-few text 0 s in omega arith
+use Rattle.laws.proofs.Cases.{cond-cases}
+use Rattle.laws.proofs.ComponentLaws.{components-few}
+use Rattle.laws.specs.Acceptance.{Sound}
+use Rattle.laws.proofs.Acceptance.{accepted-sound, body-small}
+use Rattle.laws.proofs.Inside.{root-inside, LandingInside, StepInside, one-component-inside}
+use Rattle.laws.proofs.Refusals.{unrefused, path-short, handle-inside, Uncounted, before-uncounted}
 
 not-walked-bounded : Bounded notWalked
 not-walked-bounded = record { few-links = lit≤ tt; few-components = lit≤ tt }

@@ -28,10 +28,10 @@ use Rattle.model.specs.declared.Refusal.{Refusal}
 use Rattle.model.specs.declared.Answer.{Answer}
 use Rattle.model.specs.declared.Answer.the-variants.{Found}
 use Rattle.model.specs.declared.Errno.{Errno}
-use Rattle.theorems.proofs.ByteLaws.{field-ext, find-ext}
-use Rattle.theorems.proofs.Cases.{some-not-none}
-use Rattle.theorems.proofs.BitLaws.{has-or, has-or-high, or-low}
-use Rattle.theorems.proofs.Refusals.{unrefused, how-long}
+use Rattle.laws.proofs.ByteLaws.{field-ext, find-ext}
+use Rattle.laws.proofs.Cases.{some-not-none}
+use Rattle.laws.proofs.BitLaws.{has-or, has-or-high, or-low}
+use Rattle.laws.proofs.Refusals.{unrefused, how-long}
 use Rattle.theorems.proofs.OnlyStops as trace
 
 -- the number that the bits of the added restrictions make, and its bits one by one

@@ -10,7 +10,7 @@ use Rattle.theorems.specs.Adding.{Meeting, onward, meetings, firstForbid
 use Rattle.model.specs.declared.Progress.{Progress}
 use Rattle.model.specs.declared.Errno.{Errno}
 use Rattle.model.specs.declared.Answer.{Answer}
-use Rattle.theorems.proofs.Cases.{some-not-none}
+use Rattle.laws.proofs.Cases.{some-not-none}
 
 -- one entry of a row, by whether its restriction is added (a) and set already (r); fa, fr, fn: the rest of the row's error under
 -- the added, the earlier and all restrictions

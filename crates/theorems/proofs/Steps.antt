@@ -18,12 +18,12 @@ use Rattle.model.specs.declared.Progress.{Progress}
 use Rattle.model.specs.declared.State.{State}
 use Rattle.model.specs.declared.Errno.{Errno}
 use Rattle.model.specs.declared.Answer.{Answer}
-use Rattle.theorems.specs.Acceptance.{Sound}
+use Rattle.laws.specs.Acceptance.{Sound}
 use Rattle.theorems.specs.Bounded.{Bounded}
-use Rattle.theorems.specs.Inside.{Inside}
+use Rattle.laws.specs.Inside.{Inside}
 use Rattle.theorems.specs.Ordered.{Room, Ordered, OrderedOnward}
 use Rattle.theorems.proofs.Bounds.{room-bounded, TurnOrdered, transition-ordered}
-use Rattle.theorems.proofs.Cases.{cond-cases}
+use Rattle.laws.proofs.Cases.{cond-cases}
 
 -- events met with one progress: the first forbidden one refuses
 refused-or : (a b : Option Errno) (p : Progress) (later : Answer) → refusedBy a p (refusedBy b p later) ≡ refusedBy (orElse a b) p later

@@ -5,7 +5,7 @@ use Rattle.model.specs.Tree.{Tree}
 use Rattle.model.specs.Step.{Configuration, Onward, more, done, failed}
 use Rattle.model.specs.declared.State.{State}
 use Rattle.theorems.specs.Bounded.{Bounded}
-use Rattle.theorems.specs.Inside.{Inside}
+use Rattle.laws.specs.Inside.{Inside}
 
 -- the counts of a state keep to the bounds with all that a number of links left and of components pending can still add
 pub record Room (links pending : ℕ) (s : State) : Type 0 where

@@ -18,7 +18,7 @@ ghost use Rattle.model.specs.Tree.{treeOf, isDirectory, under, lookup, mountOn}
 ghost use Rattle.model.specs.TableCheck.{tableCheck};
 ghost use Rattle.model.specs.Walk.{placeAt};
 ghost use Rattle.model.specs.declared.Verdict.the-variants.{Accepted};
-ghost use Rattle.theorems.specs.Acceptance.{Sized, DirectoriesHold};
+ghost use Rattle.laws.specs.Acceptance.{Sized, DirectoriesHold};
 ghost use Rattle.image.specs.Counts.{Counted};
 ghost use Rattle.parts.specs.Searches.{searchOf};
 

@@ -13,8 +13,8 @@ use Rattle.model.specs.Walk.{standingOn, followedTo, isEmpty}
 use Rattle.model.specs.Step.{onWith}
 use Rattle.model.specs.declared.Place.{Place}
 use Rattle.model.specs.declared.State.{State}
-use Rattle.theorems.specs.Acceptance.{Sound}
-use Rattle.theorems.proofs.Acceptance.{accepted-sound, body-small}
+use Rattle.laws.specs.Acceptance.{Sound}
+use Rattle.laws.proofs.Acceptance.{accepted-sound, body-small}
 use Rattle.text.specs.Positions.{Stands, slashes, left}
 use Rattle.text.specs.Texts.{textOf}
 use Rattle.text.proofs.Components.{left-start, left-end, start-stands}

@@ -10,9 +10,9 @@ use Rattle.model.specs.Walk.{finish}
 use Rattle.model.specs.Step.{Onward, more, done, failed, step, answerAfter}
 use Rattle.model.specs.declared.Errno.{Errno}
 use Rattle.model.specs.declared.State.{State}
-use Rattle.theorems.specs.Inside.{Inside}
+use Rattle.laws.specs.Inside.{Inside}
 use Rattle.theorems.specs.Ordered.{OrderedOnward}
-use Rattle.theorems.proofs.Acceptance.{accepted-sound}
+use Rattle.laws.proofs.Acceptance.{accepted-sound}
 use Rattle.theorems.proofs.Steps.{Took, repeats, step-ordered, step-took}
 use Rattle.component.specs.Outcomes.{requestFor, restrictionsFor}
 use Rattle.component.specs.Walking.{Walking}

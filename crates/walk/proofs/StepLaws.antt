@@ -15,9 +15,9 @@ use Rattle.model.specs.Step.{failed, step, stepOf}
 use Rattle.model.specs.declared.Errno.{Errno}
 use Rattle.model.specs.declared.Errno.the-variants.{Enotdir}
 use Rattle.model.specs.declared.State.{State}
-use Rattle.theorems.proofs.Inside.{LandingInside, StepInside, one-component-inside}
-use Rattle.theorems.proofs.Acceptance.{accepted-sound}
-use Rattle.theorems.proofs.Cases.{cond-cases}
+use Rattle.laws.proofs.Inside.{LandingInside, StepInside, one-component-inside}
+use Rattle.laws.proofs.Acceptance.{accepted-sound}
+use Rattle.laws.proofs.Cases.{cond-cases}
 use Rattle.text.specs.Positions.{nextStart, componentAt, componentBytes}
 use Rattle.reader.specs.Spans.{spanAt}
 use Rattle.text.specs.Texts.{textOf, between}

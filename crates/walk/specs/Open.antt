@@ -10,7 +10,7 @@ use Rattle.model.specs.Walk.{standingOn, followedTo, isEmpty}
 use Rattle.model.specs.Step.{Configuration, Onward, more, done, failed, onWith, step, answerFrom}
 use Rattle.model.specs.declared.State.{State}
 use Rattle.model.specs.declared.Answer.{Answer}
-use Rattle.theorems.specs.Inside.{Inside}
+use Rattle.laws.specs.Inside.{Inside}
 use Rattle.theorems.specs.Ordered.{Ordered}
 use Rattle.text.specs.Positions.{Stands, left}
 use Rattle.text.specs.Texts.{textOf, Readable}

@@ -8,7 +8,7 @@ use lib.ListN.{length}
 use denote.Ref.{now}
 use Rattle.model.specs.Tree.{treeOf, lookup}
 use Rattle.model.specs.Walk.{stepTo, byName}
-use Rattle.theorems.proofs.Acceptance.{accepted-sound, lookup-inside, entry-facts}
+use Rattle.laws.proofs.Acceptance.{accepted-sound, lookup-inside, entry-facts}
 use Rattle.parts.proofs.SearchLaws.{search-at, search-nowhere}
 use Rattle.component.specs.Outcomes.{requestFor, restrictionsFor, outcome}
 use Rattle.component.proofs.by_name.Statement.{statement}

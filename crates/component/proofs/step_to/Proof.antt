@@ -4,7 +4,7 @@ use native.Mathlib.Omega.{arith}
 use denote.Ref.{now}
 use Rattle.model.specs.Tree.{treeOf, isLink}
 use Rattle.model.specs.Walk.{stepTo}
-use Rattle.theorems.proofs.Acceptance.{accepted-sound}
+use Rattle.laws.proofs.Acceptance.{accepted-sound}
 use Rattle.component.specs.Outcomes.{requestFor, restrictionsFor}
 use Rattle.component.proofs.StepLaws.{no-link, stood-other}
 use Rattle.component.proofs.step_to.Statement.{statement}

@@ -7,7 +7,7 @@ use Rattle.model.specs.Answers.{progressOf}
 use Rattle.theorems.specs.Bounded.{Bounded}
 use Rattle.theorems.proofs.Bounds.{every-walk-bounded}
 use Rattle.model.specs.Resolve.{refusedBefore}
-use Rattle.theorems.proofs.Acceptance.{accepted-sized}
+use Rattle.laws.proofs.Acceptance.{accepted-sized}
 use Rattle.image.specs.Counts.{Counted}
 use Rattle.open_how.specs.Checks.{fieldsOf}
 use Rattle.call.proofs.CallLaws.{accepted-call}

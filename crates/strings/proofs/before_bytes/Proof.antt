@@ -9,7 +9,7 @@ use borrow.Author.Tests.{eq-eqb, ne-eqb, le-ltb}
 use lib.ListN.{length, drop}
 use denote.Ref.{now}
 use Rattle.model.specs.Bytes.{before}
-use Rattle.theorems.proofs.StringLaws.{before-next, before-short, before-ended}
+use Rattle.laws.proofs.StringLaws.{before-next, before-short, before-ended}
 use Rattle.strings.proofs.before_bytes.Statement.{statement}
 use Rattle.strings.proofs.before_bytes.Tie as tie
 

@@ -2,7 +2,7 @@
 use mathlib.Core.Path.{sym}
 use native.Mathlib.Omega.{arith}
 use denote.Ref.{now}
-use Rattle.theorems.proofs.StringLaws.{differing}
+use Rattle.laws.proofs.StringLaws.{differing}
 use borrow.Author.Needs.{needs}
 use Rattle.strings.proofs.same.Statement.{statement}
 use Rattle.strings.proofs.same.Tie as tie

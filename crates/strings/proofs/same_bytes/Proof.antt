@@ -6,7 +6,7 @@ use borrow.Author.Tests.{eq-eqb, ne-eqb}
 use lib.ListN.{length, drop}
 use denote.Ref.{now}
 use Rattle.model.specs.Bytes.{sameBytes}
-use Rattle.theorems.proofs.StringLaws.{same-next, same-end}
+use Rattle.laws.proofs.StringLaws.{same-next, same-end}
 use Rattle.strings.proofs.same_bytes.Statement.{statement}
 use Rattle.strings.proofs.same_bytes.Tie as tie
 

@@ -9,7 +9,7 @@ use lib.ListN.{length}
 use denote.Ref.{now}
 use Rattle.model.specs.Tree.{treeOf}
 use Rattle.model.specs.TableCheck.{rule1, rule2, rule3, recordsCheck, tableCheck}
-use Rattle.theorems.proofs.Acceptance.{rules-sized}
+use Rattle.laws.proofs.Acceptance.{rules-sized}
 use Rattle.image.proofs.CountLaws.{counted}
 use Rattle.table.proofs.CutLaws.{nodes-whole, mounts-whole, entries-whole, image-tree}
 use Rattle.table.proofs.check.Statement.{statement}

@@ -3,7 +3,7 @@ use borrow.Author.Needs.{needs}
 use mathlib.Core.List.{[]}
 use denote.Ref.{now}
 use Rattle.model.specs.TableCheck.{recordsCheck}
-use Rattle.theorems.proofs.Acceptance.{rule4-nodes}
+use Rattle.laws.proofs.Acceptance.{rule4-nodes}
 use Rattle.parts.specs.Parts.{partsTree}
 use Rattle.parts.proofs.PartsLaws.{directories-hold}
 use Rattle.table.proofs.PartLaws.{rule4-parts, rule5-parts, rule6-parts, rule7-parts}

@@ -9,8 +9,8 @@ use borrow.Author.Tests.{not-false}
 use denote.Ref.{now}
 use Rattle.model.specs.Tree.{firstIn, countIn}
 use Rattle.model.specs.TableCheck.{nameHolds, entryHolds}
-use Rattle.theorems.proofs.Acceptance.{directory-below}
-use Rattle.theorems.proofs.ByteLaws.{find-here, find-on, find-done}
+use Rattle.laws.proofs.Acceptance.{directory-below}
+use Rattle.laws.proofs.ByteLaws.{find-here, find-on, find-done}
 use Rattle.parts.specs.Parts.{entriesTree}
 use Rattle.parts.specs.Searches.{searchOf}
 use Rattle.table_entries.specs.Ranges.{badIn}

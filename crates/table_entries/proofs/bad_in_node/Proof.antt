@@ -2,7 +2,7 @@
 use mathlib.Core.Path.{ap, _∙_, sym}
 use native.Mathlib.Omega.{arith}
 use denote.Ref.{now}
-use Rattle.theorems.proofs.EntryLaws.{is-directory}
+use Rattle.laws.proofs.EntryLaws.{is-directory}
 use Rattle.parts.specs.Parts.{entriesTree}
 use Rattle.parts.specs.Searches.{searchOf}
 use Rattle.table_entries.proofs.RangeLaws.{other-bad, directory-bad}

@@ -7,7 +7,7 @@ use native.Mathlib.Omega.{arith}
 use borrow.Author.Tests.{eq-eqb, ne-eqb}
 use lib.Dec.{ltb}
 use denote.Ref.{now}
-use Rattle.theorems.proofs.EntryLaws.{directory-stands, other-stands, is-directory, not-directory}
+use Rattle.laws.proofs.EntryLaws.{directory-stands, other-stands, is-directory, not-directory}
 use Rattle.parts.specs.Parts.{entriesTree}
 use Rattle.table_entries.proofs.RangeLaws.{held-inside}
 use Rattle.table_entries.proofs.stands_in_parent.Statement.{statement}

@@ -7,8 +7,8 @@ use mathlib.Core.Path.{_≡_, refl, sym, ap, subst, _∙_}
 use native.Mathlib.Omega.{arith}
 use denote.Ref.{now}
 use Rattle.model.specs.Tree.{isDirectory, parentIn}
-use Rattle.theorems.specs.Acceptance.{DirectoriesHold}
-use Rattle.theorems.proofs.Acceptance.{directory-below, parent-directory}
+use Rattle.laws.specs.Acceptance.{DirectoriesHold}
+use Rattle.laws.proofs.Acceptance.{directory-below, parent-directory}
 use Rattle.parts.specs.Parts.{mountsTree}
 use Rattle.parts.specs.declared.records.Counts.{Counts}
 use Rattle.table_leads.specs.Climbs.{climbed}

@@ -7,8 +7,8 @@ use lib.Dec.{eqb}
 use Rattle.model.specs.Bytes.{find, isSome}
 use Rattle.model.specs.Tree.{mountParentIn, mountPointIn}
 use Rattle.model.specs.TableCheck.{sharesPoint}
-use Rattle.theorems.proofs.ByteLaws.{find-here, find-on, find-done}
-use Rattle.theorems.proofs.StringLaws.{packed-same, packed-other}
+use Rattle.laws.proofs.ByteLaws.{find-here, find-on, find-done}
+use Rattle.laws.proofs.StringLaws.{packed-same, packed-other}
 use Rattle.table_mounts.specs.Clashes.{uncounted}
 use Rattle.table_mounts.proofs.shares_point.Statement.{statement}
 use Rattle.table_mounts.proofs.shares_point.Tie as tie

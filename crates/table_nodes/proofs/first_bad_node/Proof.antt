@@ -10,7 +10,7 @@ use borrow.Author.Tests.{eq-eqb, ne-eqb}
 use denote.Ref.{now}
 use Rattle.model.specs.Bytes.{find, firstFailing}
 use Rattle.model.specs.TableCheck.{directoryCount, sumBelow, countsBefore, nodeHolds, rule4}
-use Rattle.theorems.proofs.ByteLaws.{find-here, find-on, find-done}
+use Rattle.laws.proofs.ByteLaws.{find-here, find-on, find-done}
 use Rattle.parts.specs.Parts.{nodesTree}
 use Rattle.parts.specs.Searches.{searchOf}
 use Rattle.table_nodes.proofs.first_bad_node.Statement.{statement}

@@ -5,8 +5,8 @@ use native.Mathlib.Omega.{arith}
 use denote.Ref.{now}
 use Rattle.model.specs.Bytes.{find, sameBytes}
 use Rattle.model.specs.Tree.{treeOf, lookup}
-use Rattle.theorems.proofs.Acceptance.{directory-below, accepted-sound, entries-inside, name-facts}
-use Rattle.theorems.proofs.ByteLaws.{find-here, find-on, find-done}
+use Rattle.laws.proofs.Acceptance.{directory-below, accepted-sound, entries-inside, name-facts}
+use Rattle.laws.proofs.ByteLaws.{find-here, find-on, find-done}
 use Rattle.parts.specs.Searches.{searchOf}
 use Rattle.tree.proofs.find_entry.Statement.{statement}
 use Rattle.tree.proofs.find_entry.Tie as tie

@@ -7,10 +7,10 @@ use denote.Ref.{now}
 use Rattle.model.specs.Bytes.{find}
 use Rattle.model.specs.Tree.{treeOf, mountOn}
 use Rattle.model.specs.Walk.{placeAt}
-use Rattle.theorems.proofs.Acceptance.{accepted-sound}
-use Rattle.theorems.proofs.ByteLaws.{find-here, find-on, find-done}
-use Rattle.theorems.proofs.MountLaws.{onPlace, mount-on-above, mount-on-root}
-use Rattle.theorems.proofs.StringLaws.{packed-same, packed-other}
+use Rattle.laws.proofs.Acceptance.{accepted-sound}
+use Rattle.laws.proofs.ByteLaws.{find-here, find-on, find-done}
+use Rattle.laws.proofs.MountLaws.{onPlace, mount-on-above, mount-on-root}
+use Rattle.laws.proofs.StringLaws.{packed-same, packed-other}
 use Rattle.parts.specs.Searches.{searchOf}
 use Rattle.tree.proofs.find_mount.Statement.{statement}
 use Rattle.tree.proofs.find_mount.Tie as tie

@@ -5,8 +5,8 @@ use lib.ListN.{length}
 use denote.Ref.{now}
 use Rattle.model.specs.Bytes.{sameBytes}
 use Rattle.model.specs.Tree.{treeOf}
-use Rattle.theorems.proofs.Acceptance.{name-whole}
-use Rattle.theorems.proofs.StringLaws.{differing}
+use Rattle.laws.proofs.Acceptance.{name-whole}
+use Rattle.laws.proofs.StringLaws.{differing}
 use borrow.Author.Needs.{needs}
 use Rattle.tree.proofs.is_named.Statement.{statement}
 use Rattle.tree.proofs.is_named.Tie as tie

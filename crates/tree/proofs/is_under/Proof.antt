@@ -7,8 +7,8 @@ use native.Mathlib.Omega.{arith}
 use borrow.Author.Tests.{ne-eqb}
 use denote.Ref.{now}
 use Rattle.model.specs.Tree.{treeOf, isDirectory, under}
-use Rattle.theorems.proofs.Acceptance.{directory-below, parent-directory, parent-le}
-use Rattle.theorems.proofs.UnderLaws.{under-parent, under-top, under-met}
+use Rattle.laws.proofs.Acceptance.{directory-below, parent-directory, parent-le}
+use Rattle.laws.proofs.UnderLaws.{under-parent, under-top, under-met}
 use Rattle.tree.proofs.is_under.Statement.{statement}
 use Rattle.tree.proofs.is_under.Tie as tie
 

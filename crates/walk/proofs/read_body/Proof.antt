@@ -9,7 +9,7 @@ use denote.Ref.{now}
 use Rattle.model.specs.Tree.{treeOf}
 use Rattle.model.specs.Path.{endsInSlash}
 use Rattle.model.specs.Walk.{followedTo}
-use Rattle.theorems.proofs.Acceptance.{accepted-sound, symlink-facts}
+use Rattle.laws.proofs.Acceptance.{accepted-sound, symlink-facts}
 use Rattle.text.specs.Positions.{slashes}
 use Rattle.text.proofs.Components.{start-past, past-within}
 use Rattle.walk.specs.Open.{Resting, Advanced, Entered}

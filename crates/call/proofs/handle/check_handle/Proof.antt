@@ -7,7 +7,7 @@ use denote.Ref.{now}
 use Rattle.model.specs.Bytes.{isSome}
 use Rattle.model.specs.Tree.{treeOf, under, mountOn, covered}
 use Rattle.model.specs.Handles.{placeOf}
-use Rattle.theorems.proofs.Acceptance.{accepted-sound}
+use Rattle.laws.proofs.Acceptance.{accepted-sound}
 use Rattle.open_how.specs.Checks.{checkOf}
 use Rattle.parts.proofs.SearchLaws.{search-at, search-nowhere}
 use Rattle.call.proofs.HandleLaws.{no-mount, no-node, no-directory, not-under, is-covered, is-good}

@@ -9,7 +9,7 @@ use native.Mathlib.Omega.{arith}
 use Rattle.model.specs.Tree.{treeOf}
 use Rattle.model.specs.Path.{absolute}
 use Rattle.model.specs.Walk.{symbolicLink}
-use Rattle.theorems.proofs.Acceptance.{accepted-sound, symlink-facts}
+use Rattle.laws.proofs.Acceptance.{accepted-sound, symlink-facts}
 use Rattle.component.proofs.LimitLaws.{barred-link}
 use Rattle.component.proofs.RowLaws.{link-row, jump-row}
 use Rattle.model.specs.Trace.{forbidAny}

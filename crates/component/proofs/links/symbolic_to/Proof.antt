@@ -4,7 +4,7 @@ use borrow.Author.Tests.{not-true, not-false}
 use mathlib.Core.Path.{_≡_, sym, _∙_}
 use native.Mathlib.Omega.{arith}
 use denote.Ref.{now}
-use Rattle.theorems.proofs.Acceptance.{accepted-sound}
+use Rattle.laws.proofs.Acceptance.{accepted-sound}
 use Rattle.component.specs.Outcomes.{requestFor, restrictionsFor}
 use Rattle.component.proofs.LimitLaws.{symbolic-open, symbolic-spent}
 use Rattle.component.proofs.StepLaws.{stood-link, symbolic-step}

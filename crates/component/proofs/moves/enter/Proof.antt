@@ -7,7 +7,7 @@ use native.Mathlib.Omega.{arith}
 use Rattle.model.specs.Tree.{treeOf, mountOn}
 use Rattle.model.specs.Trace.{forbids, row, firstSet, forbidAny}
 use Rattle.model.specs.Walk.{placeAt, rootOf, enter}
-use Rattle.theorems.proofs.Acceptance.{mount-on-below}
+use Rattle.laws.proofs.Acceptance.{mount-on-below}
 use Rattle.parts.proofs.SearchLaws.{search-at, search-nowhere}
 use Rattle.component.specs.declared.Outcome.the-variants.{Go}
 use Rattle.component.proofs.moves.enter.Statement.{statement}

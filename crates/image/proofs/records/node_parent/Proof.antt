@@ -5,7 +5,7 @@ use native.Mathlib.Omega.{arith}
 use denote.Ref.{now}
 use Prim.Native.Nat.{_+_}
 use Rattle.model.specs.Tree.{nodesPart, treeOf}
-use Rattle.theorems.proofs.PartLaws.{part-column}
+use Rattle.laws.proofs.PartLaws.{part-column}
 use Rattle.image.proofs.records.node_parent.Statement.{statement}
 use Rattle.image.proofs.records.node_parent.Tie as tie
 

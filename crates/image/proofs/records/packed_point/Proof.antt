@@ -5,8 +5,8 @@ use mathlib.Core.Path.{refl, _∙_}
 use native.Mathlib.Omega.{arith}
 use denote.Ref.{now}
 use Rattle.model.specs.Tree.{sizesOf, mountsAt, mountsPart, treeOf}
-use Rattle.theorems.proofs.ByteLaws.{field-pair, field-lt}
-use Rattle.theorems.proofs.PartLaws.{part-column}
+use Rattle.laws.proofs.ByteLaws.{field-pair, field-lt}
+use Rattle.laws.proofs.PartLaws.{part-column}
 use Rattle.image.proofs.records.packed_point.Statement.{statement}
 use Rattle.image.proofs.records.packed_point.Tie as tie
 

@@ -5,7 +5,7 @@ use mathlib.Core.Path.{_≡_}
 use native.Mathlib.Omega.{arith}
 use denote.Ref.{now}
 use Rattle.model.specs.Tree.{sizesOf, mountsAt, mountsPart, treeOf}
-use Rattle.theorems.proofs.StringLaws.{part-between}
+use Rattle.laws.proofs.StringLaws.{part-between}
 use Rattle.image.proofs.slices.mounts.Statement.{statement}
 use Rattle.image.proofs.slices.mounts.Tie as tie
 

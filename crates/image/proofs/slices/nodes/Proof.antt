@@ -5,7 +5,7 @@ use mathlib.Core.Path.{_≡_, refl, ap}
 use native.Mathlib.Omega.{arith}
 use denote.Ref.{now}
 use Rattle.model.specs.Tree.{sizesOf, nodesPart, treeOf}
-use Rattle.theorems.proofs.StringLaws.{part-between}
+use Rattle.laws.proofs.StringLaws.{part-between}
 use Rattle.image.proofs.slices.nodes.Statement.{statement}
 use Rattle.image.proofs.slices.nodes.Tie as tie
 

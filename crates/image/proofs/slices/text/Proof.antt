@@ -5,7 +5,7 @@ use mathlib.Core.Path.{_≡_, sym}
 use denote.Ref.{now}
 use lib.ListN.{length}
 use Rattle.model.specs.Tree.{sizesOf, textAt, textPart, treeOf}
-use Rattle.theorems.proofs.StringLaws.{part-between}
+use Rattle.laws.proofs.StringLaws.{part-between}
 use Rattle.image.proofs.slices.text.Statement.{statement}
 use Rattle.image.proofs.slices.text.Tie as tie
 

@@ -5,8 +5,8 @@ use mathlib.Core.Path.{sym, ap, ap₂, _∙_}
 use native.Mathlib.Omega.{arith}
 use denote.Ref.{now}
 use Rattle.model.specs.Tree.{sizesOf, textAt, textPart, treeOf}
-use Rattle.theorems.proofs.PartLaws.{part-part}
-use Rattle.theorems.proofs.StringLaws.{part-between}
+use Rattle.laws.proofs.PartLaws.{part-part}
+use Rattle.laws.proofs.StringLaws.{part-between}
 use Rattle.image.proofs.texts.name.Statement.{statement}
 use Rattle.image.proofs.texts.name.Tie as tie
 

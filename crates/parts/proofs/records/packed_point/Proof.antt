@@ -3,7 +3,7 @@ use Prim.Native.Nat.{_+_, _*_}
 use mathlib.Core.Path.{refl, _∙_}
 use native.Mathlib.Omega.{arith}
 use denote.Ref.{now}
-use Rattle.theorems.proofs.ByteLaws.{field-pair, field-lt}
+use Rattle.laws.proofs.ByteLaws.{field-pair, field-lt}
 use borrow.Author.Needs.{needs}
 use Rattle.parts.proofs.records.packed_point.Statement.{statement}
 use Rattle.parts.proofs.records.packed_point.Tie as tie

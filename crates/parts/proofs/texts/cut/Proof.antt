@@ -1,7 +1,7 @@
 -- `parts::texts::cut` meets its contract. Assumes nothing.
 use mathlib.Core.Path.{refl}
 use denote.Ref.{now}
-use Rattle.theorems.proofs.StringLaws.{part-between}
+use Rattle.laws.proofs.StringLaws.{part-between}
 use borrow.Author.Needs.{needs}
 use Rattle.parts.proofs.texts.cut.Statement.{statement}
 use Rattle.parts.proofs.texts.cut.Tie as tie

@@ -9,7 +9,7 @@ use native.Mathlib.Omega.{arith}
 use borrow.Author.Tests.{le-leb, lt-leb, ltb-true}
 use lib.ListN.{length}
 use denote.Ref.{now}
-use Rattle.theorems.proofs.PartLaws.{part-whole}
+use Rattle.laws.proofs.PartLaws.{part-whole}
 use Rattle.parts.specs.Parts.{entriesTree}
 use Rattle.text_marks.specs.Barred.{holdsBarred}
 use Rattle.table_texts.proofs.SureLaws.{sure-name}

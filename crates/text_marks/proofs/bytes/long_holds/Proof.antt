@@ -8,7 +8,7 @@ use native.Mathlib.Omega.{arith}
 use lib.ListN.{length, drop}
 use denote.Ref.{now}
 use Rattle.model.specs.Bytes.{contains}
-use Rattle.theorems.proofs.StringLaws.{seen-hit, seen-miss, seen-all}
+use Rattle.laws.proofs.StringLaws.{seen-hit, seen-miss, seen-all}
 use Rattle.text_marks.specs.Barred.{holdsBarred}
 use Rattle.text_marks.proofs.bytes.long_holds.Statement.{statement}
 use Rattle.text_marks.proofs.bytes.long_holds.Tie as tie

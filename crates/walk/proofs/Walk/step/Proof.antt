@@ -9,7 +9,7 @@ use lib.Dec.{eqb}
 use lib.ListN.{length}
 use denote.Ref.{now}
 use Rattle.model.specs.Tree.{treeOf}
-use Rattle.theorems.proofs.EntryLaws.{is-directory, not-directory}
+use Rattle.laws.proofs.EntryLaws.{is-directory, not-directory}
 use Rattle.text.specs.Texts.{textOf}
 use Rattle.reader.specs.Spans.{spanAt}
 use Rattle.text.proofs.Components.{end-within, next-stands}

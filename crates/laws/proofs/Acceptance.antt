@@ -18,10 +18,10 @@ use Rattle.model.specs.TableCheck.{tableCheck}
 use Rattle.model.specs.declared.Place.{Place}
 use Rattle.model.specs.declared.Verdict.{Verdict}
 use Rattle.model.specs.declared.Verdict.the-variants.{Accepted}
-use Rattle.theorems.specs.Acceptance.{Sized, DirectoriesHold, NodesHold, MountsHold, Sound}
-use Rattle.theorems.proofs.ByteLaws.{firstFailing-none, find-some}
-use Rattle.theorems.proofs.Cases.{some-not-none, both}
-use Rattle.theorems.proofs.PartLaws.{part-whole, text-length}
+use Rattle.laws.specs.Acceptance.{Sized, DirectoriesHold, NodesHold, MountsHold, Sound}
+use Rattle.laws.proofs.ByteLaws.{firstFailing-none, find-some}
+use Rattle.laws.proofs.Cases.{some-not-none, both}
+use Rattle.laws.proofs.PartLaws.{part-whole, text-length}
 
 unbroken : (rule : ℕ) (o : Option ℕ) (later : Verdict) → breaks rule o later ≡ Accepted → (o ≡ none) × (later ≡ Accepted)
 unbroken rule none later e = (refl, e)

@@ -10,10 +10,10 @@ use lib.Dec.{eqb}
 use Rattle.model.specs.Bytes.{find}
 use Rattle.model.specs.Tree.{Tree, mountOn}
 use Rattle.model.specs.Walk.{placeAt}
-use Rattle.theorems.specs.Acceptance.{MountsHold}
-use Rattle.theorems.proofs.Acceptance.{mount-parent-lower, point-not-root}
-use Rattle.theorems.proofs.ByteLaws.{find-absent, find-later}
-use Rattle.theorems.proofs.Cases.{both}
+use Rattle.laws.specs.Acceptance.{MountsHold}
+use Rattle.laws.proofs.Acceptance.{mount-parent-lower, point-not-root}
+use Rattle.laws.proofs.ByteLaws.{find-absent, find-later}
+use Rattle.laws.proofs.Cases.{both}
 
 -- the test of the search for the mount on a place
 abbrev pub onPlace : Tree → ℕ → ℕ → ℕ → Bool

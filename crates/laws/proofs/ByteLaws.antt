@@ -10,7 +10,7 @@ use mathlib.Core.Logic.{_⊎_, inl, inr, ⊎-elim}
 use borrow.Author.Tests.{not-false}
 use lib.ListN.{getD}
 use Rattle.model.specs.Bytes.{field, fieldBytes, find, firstFailing, orElse, isSome}
-use Rattle.theorems.proofs.Cases.{some-not-none}
+use Rattle.laws.proofs.Cases.{some-not-none}
 
 -- a field is the same where its bytes are
 pub field-ext : (width : ℕ) (s t : List ℕ) (at : ℕ) → ((i : ℕ) → at ≤ i → i < at + width → getD s i 0 ≡ getD t i 0)

@@ -10,7 +10,7 @@ use lib.Dec.{eqb}
 use lib.Bits.{bitOr, or-step, or-shr, or-block, or-zero-r}
 use lib.Pow.{pow-lt, pow-add, pow-pos}
 use Rattle.model.specs.Bytes.{has}
-use Rattle.theorems.proofs.Cases.{below-or}
+use Rattle.laws.proofs.Cases.{below-or}
 
 digit-or : (p q : ℕ) → p < 2 → q < 2 → eqb (max p q) 1 ≡ eqb p 1 || eqb q 1
 digit-or zero zero hp hq = refl

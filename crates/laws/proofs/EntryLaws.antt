@@ -10,11 +10,11 @@ use lib.Dec.{eqb, ltb, leb}
 use Rattle.model.specs.Bytes.{before, find, isSome}
 use Rattle.model.specs.Tree.{Tree, isDirectory, isLink, holds}
 use Rattle.model.specs.TableCheck.{nodeHolds, follows, ascends, standsInParent}
-use Rattle.theorems.specs.Held.{Held}
-use Rattle.theorems.specs.Acceptance.{DirectoriesHold, NodesHold}
-use Rattle.theorems.proofs.Acceptance.{directory-below, directory-kind, first-sum, counts-grow, counts-next}
-use Rattle.theorems.proofs.ByteLaws.{find-exists, find-absent}
-use Rattle.theorems.proofs.Cases.{both, below-or}
+use Rattle.laws.specs.Held.{Held}
+use Rattle.laws.specs.Acceptance.{DirectoriesHold, NodesHold}
+use Rattle.laws.proofs.Acceptance.{directory-below, directory-kind, first-sum, counts-grow, counts-next}
+use Rattle.laws.proofs.ByteLaws.{find-exists, find-absent}
+use Rattle.laws.proofs.Cases.{both, below-or}
 
 pub holds-held : (t : Tree) (n e : ℕ) → holds t n e ≡ true → Held t n e
 unfolding holds

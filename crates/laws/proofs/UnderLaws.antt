@@ -9,8 +9,8 @@ use native.Mathlib.Omega.{arith}
 use borrow.Author.Tests.{eq-eqb, ne-eqb}
 use lib.Dec.{eqb}
 use Rattle.model.specs.Tree.{Tree, isDirectory, meetsWithin, under}
-use Rattle.theorems.specs.Acceptance.{DirectoriesHold}
-use Rattle.theorems.proofs.Acceptance.{directory-below, parent-directory, parent-le}
+use Rattle.laws.specs.Acceptance.{DirectoriesHold}
+use Rattle.laws.proofs.Acceptance.{directory-below, parent-directory, parent-le}
 
 or-self : (b : Bool) → (b || b) ≡ b
 or-self true = refl

@@ -7,7 +7,7 @@ use lib.ListN.{length, getD, take, drop, length-take, length-drop}
 use lib.Seq.{getD-take, getD-drop, take-take, drop-drop}
 use Rattle.model.specs.Bytes.{field, part}
 use Rattle.model.specs.Tree.{sizesOf, nodesPart, mountsPart, entriesPart, textPart, treeOf}
-use Rattle.theorems.specs.Acceptance.{Sized}
+use Rattle.laws.specs.Acceptance.{Sized}
 
 part-get : (s : List ℕ) (at count k : ℕ) → k < count → getD (part s at count) k 0 ≡ getD s (at + k) 0
 unfolding part

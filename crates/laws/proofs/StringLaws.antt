@@ -10,7 +10,7 @@ use lib.Dec.{eqb, ltb}
 use lib.ListN.{length, getD, take, drop, drop-of-length-le}
 use lib.Seq.{drop-cons}
 use Rattle.model.specs.Bytes.{part, contains, sameBytes, before}
-use Rattle.theorems.proofs.Cases.{both}
+use Rattle.laws.proofs.Cases.{both}
 
 -- a list from a position on, by the byte there
 pub next : (s : List ℕ) (i : ℕ) → i < length s → drop i s ≡ getD s i 0 ∷ drop (i + 1) s

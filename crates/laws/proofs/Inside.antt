@@ -14,10 +14,10 @@ use Rattle.model.specs.Walk.{follow, magicLink, symbolicLink, followLink, stepT
 use Rattle.model.specs.Path.{absolute}
 use Rattle.model.specs.Trace.{Event, Escape}
 use Rattle.model.specs.declared.Place.{Place}
-use Rattle.theorems.specs.Acceptance.{Sound}
-use Rattle.theorems.specs.Inside.{Inside}
-use Rattle.theorems.proofs.Acceptance.{directory-below, parent-directory, lookup-inside, entry-facts, root-directory, point-directory, mount-parent-below, mount-on-below, target-inside}
-use Rattle.theorems.proofs.Cases.{both, first-of, cond-cases}
+use Rattle.laws.specs.Acceptance.{Sound}
+use Rattle.laws.specs.Inside.{Inside}
+use Rattle.laws.proofs.Acceptance.{directory-below, parent-directory, lookup-inside, entry-facts, root-directory, point-directory, mount-parent-below, mount-on-below, target-inside}
+use Rattle.laws.proofs.Cases.{both, first-of, cond-cases}
 
 module _ (t : Tree) (sound : Sound t) where
   pub root-inside : (m : ℕ) → m < t .mounts → Inside t (rootOf t m)

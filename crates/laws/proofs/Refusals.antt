@@ -22,8 +22,8 @@ use Rattle.model.specs.declared.Errno.{Errno}
 use Rattle.model.specs.declared.Errno.the-variants.{Euclean, Einval, E2big, Enametoolong, Enoent, Ebadf, Enotdir}
 use Rattle.model.specs.declared.Verdict.{Verdict}
 use Rattle.model.specs.declared.Verdict.the-variants.{Accepted, Broken}
-use Rattle.theorems.proofs.Cases.{some-not-none, both}
-use Rattle.theorems.specs.Inside.{Inside}
+use Rattle.laws.proofs.Cases.{some-not-none, both}
+use Rattle.laws.specs.Inside.{Inside}
 
 -- where a chain of checks refuses nothing, no check of it does
 both-none : (a b : Option Refusal) → orElse a b ≡ none → (a ≡ none) × (b ≡ none)

@@ -1,0 +1,13 @@
+-- The laws, which the theorems and other crates' proofs cite.
+pub mod Cases
+pub mod ByteLaws
+pub mod BitLaws
+pub mod StringLaws
+pub mod PartLaws
+pub mod ComponentLaws
+pub mod Acceptance
+pub mod UnderLaws
+pub mod EntryLaws
+pub mod MountLaws
+pub mod Inside
+pub mod Refusals
