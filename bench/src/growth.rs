@@ -50,6 +50,18 @@ pub const GROWTHS: &[Growth] = &[
         build: check_entries,
     },
     Growth {
+        name: "check-long-names",
+        about: "the check of one directory with SIZE names of 100 bytes",
+        sizes: &[1, 10, 30, 100, 500],
+        build: check_long_names,
+    },
+    Growth {
+        name: "check-mixed",
+        about: "the check of one directory with SIZE names of 8 bytes, and an absolute link for each four",
+        sizes: &[1, 10, 30, 100, 1_000],
+        build: check_mixed,
+    },
+    Growth {
         name: "check-mounts",
         about: "the check of SIZE mounts in mount 0",
         sizes: &[1, 4, 16, 64, 255],
@@ -58,7 +70,7 @@ pub const GROWTHS: &[Growth] = &[
     Growth {
         name: "check-links",
         about: "the check of SIZE symbolic links with bodies of 8 bytes",
-        sizes: &[1, 10, 100, 1_000, 2_000],
+        sizes: &[1, 3, 10, 15, 100, 1_000, 2_000],
         build: check_links,
     },
     Growth {
@@ -177,6 +189,29 @@ fn check_components(size: usize) -> Input {
 
 fn check_entries(size: usize) -> Input {
     accepted(directory(size))
+}
+
+fn check_long_names(size: usize) -> Input {
+    let (mut tree, top) = Tree::mounted();
+    let file = tree.file();
+    for i in 0..size {
+        tree.name(top, &format!("{i:0100}"), file);
+    }
+    accepted(tree)
+}
+
+/// The bodies' slashes are in the text that the names are looked for in.
+fn check_mixed(size: usize) -> Input {
+    let (mut tree, top) = Tree::mounted();
+    let file = tree.file();
+    for i in 0..size {
+        tree.name(top, &format!("name{i:04}"), file);
+    }
+    for i in 0..size / 4 {
+        let body = tree.text(format!("/pool/{i:06}").as_bytes());
+        tree.symlink(body);
+    }
+    accepted(tree)
 }
 
 fn check_mounts(size: usize) -> Input {

@@ -51,6 +51,16 @@ pub const CASES: &[Case] = &[
         build: || accepted(short_bodies()),
     },
     Case {
+        name: "hostile-some-names",
+        about: "1,500 names of 80 bytes over shared text, a slash between any two, and 42,800 letters",
+        build: || accepted(some_names()),
+    },
+    Case {
+        name: "hostile-some-bodies",
+        about: "1,500 symbolic links with bodies of 80 bytes over shared text, a zero byte between any two",
+        build: || accepted(some_bodies()),
+    },
+    Case {
         name: "hostile-points",
         about: "255 mount points at the end of a chain of 4,096 directories",
         build: || accepted(points()),
@@ -176,6 +186,37 @@ fn short_bodies() -> Tree {
     let (mut tree, _) = Tree::mounted();
     let bodies = before_zeros(&mut tree, 681, 23);
     for i in 0..4_095 {
+        tree.symlink(bodies[i % bodies.len()]);
+    }
+    tree
+}
+
+/// 126 names in each of 12 directories, and letters for the rest of the image.
+fn some_names() -> Tree {
+    let (mut tree, top) = Tree::mounted();
+    let file = tree.file();
+    let mut directories = vec![top];
+    directories.extend((1..12).map(|_| tree.directory(top)));
+    let names: Vec<Text> = (0..126)
+        .map(|i| {
+            let mut name = [b'n'; 80];
+            name[79] = b'0' + i;
+            let name = tree.text(&name);
+            tree.text(b"/");
+            name
+        })
+        .collect();
+    tree.text(&letters(42_800));
+    for i in 0..1_500 {
+        tree.name_as(directories[i / names.len()], names[i % names.len()], file);
+    }
+    tree
+}
+
+fn some_bodies() -> Tree {
+    let (mut tree, _) = Tree::mounted();
+    let bodies = before_zeros(&mut tree, 586, 80);
+    for i in 0..1_500 {
         tree.symlink(bodies[i % bodies.len()]);
     }
     tree
