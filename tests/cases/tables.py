@@ -100,6 +100,17 @@ def of_marked_names(byte, last=(0, 200)):
     return entry(t.mount(0).image(), 199, offset=last[0], length=last[1])
 
 
+def of_twelve(at, byte):
+    """A top and a file with 20 names of 12 bytes, entries 0 to 19; a byte of the last one replaced, which is above the others by its first."""
+    t = Tree()
+    t.top()
+    f = t.file()
+    for i in range(19):
+        t.name(0, b"name%08d" % i, f)
+    t.name(0, b"z" * 12, f)
+    return in_text(t.mount(0).image(), 19 * 12 + at, byte)
+
+
 def of_shared_names(byte, last=(0, 100)):
     """A top and a file with 100 names, entries 0 to 99: the first 1, 2 and so on to 100 bytes of one text, but for the last, which is as
     told. The text is 100 letters and a byte."""
@@ -427,6 +438,10 @@ check("rule-5-shared-slash", of_shared_names(47, (1, 100)), broken(5, 99), "the 
 check("rule-5-shared-zero", of_shared_names(0, (1, 100)), broken(5, 99), "the same with a zero byte for the slash")
 check("rule-5-shared-slash-alone", of_shared_names(47, (100, 1)), broken(5, 99), "the same, the last the slash alone")
 check("rule-5-shared-letter", of_shared_names(111, (1, 100)), ACCEPTED, "the same with a letter for the slash")
+check("rule-5-twelve", of_twelve(11, ord("~")), ACCEPTED, "20 names of 12 bytes")
+for at in [1, 7, 8, 11]:
+    for byte, shown in [(0, "zero"), (47, "slash")]:
+        check(f"rule-5-twelve-{shown}-{at}", of_twelve(at, byte), broken(5, 19), f"the same, a {shown} at byte {at} of the last")
 check("rule-5-marked", of_marked_names(47), ACCEPTED, "200 names of one text, none over the slash in it")
 check("rule-5-marked-slash", of_marked_names(47, (1, 200)), broken(5, 199), "the same, the last over it")
 check("rule-5-marked-zero", of_marked_names(0, (1, 200)), broken(5, 199), "the same with a zero byte for the slash")

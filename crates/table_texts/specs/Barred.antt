@@ -1,5 +1,5 @@
 -- Records whose names or bodies hold a byte which they may not.
-use Prim.Native.Nat.{ℕ, _+_, _/_}
+use Prim.Native.Nat.{ℕ, _+_, _*_, _/_}
 use mathlib.Core.Bool.{Bool, cond, not, _&&_, _||_}
 use mathlib.Core.List.{List}
 use lib.Dec.{eqb, ltb, leb}
@@ -32,9 +32,9 @@ recordBarred names records text k =
 unfoldable pub firstBarred : Bool → List ℕ → List ℕ → ℕ → ℕ
 firstBarred names records text count = foundOr count (find (λ k. recordBarred names records text k) 0 count)
 
--- so few records, over so short a text, that they are read one by one as they come
+-- so few records that they are read one by one as they come: names only over a short text
 unfoldable pub fewRecords : Bool → List ℕ → ℕ → Bool
-fewRecords names text count = ltb count (cond names 16 4) && ltb (length text) 128
+fewRecords names text count = cond names (ltb count 16 && ltb (length text) (4 * count + 24)) (ltb count 4)
 
 -- how many records, from the first on, are known to hold no barred byte
 unfoldable pub sureRecords : Bool → List ℕ → List ℕ → ℕ → ℕ

@@ -174,14 +174,17 @@ fn first_barred(records: &[u8], text: &[u8], count: usize, names: bool) -> usize
     first_by_marks(records, text, count, false)
 }
 
+// Names and bodies of small tables are read as they come: names then one byte after the other.
 fn few_records(text: &[u8], count: usize, names: bool) -> bool
     ensures { λ r. ⌜ r ≡ fewRecords names (now (text .entry)) count ⌝ }
 {
-    let few = if names { 16 } else { 4 };
-    if few <= count {
+    if !names {
+        return count < 4;
+    }
+    if 16 <= count {
         return false;
     }
-    text.len() < 128
+    text.len() < 4 * count + 24
 }
 
 // How many of the records, from the first on, are known to have no barred byte. The search is called from two places, so that it is not made

@@ -136,30 +136,30 @@ module _ (byte : ℕ) (text : List ℕ) where
       rw (n .0, marks-none (at + 1) count (omega arith) (n .1))
 
   -- what is known of a block's bytes before one of them, and of that one
-  module _ (at i : ℕ) (found : Bool) (inside : at + 64 ≤ length text)
-      (seen : contains byte (part text at 64) ≡ found || contains byte (part text (at + i) (64 - i))) where
+  module _ (at width i : ℕ) (found : Bool) (inside : at + width ≤ length text)
+      (seen : contains byte (part text at width) ≡ found || contains byte (part text (at + i) (width - i))) where
     -- its first byte and the later ones
-    block-next : i < 64 → contains byte (part text (at + i) (64 - i))
-        ≡ eqb (getD text (at + i) 0) byte || contains byte (part text (at + (i + 1)) (64 - (i + 1)))
+    block-next : i < width → contains byte (part text (at + i) (width - i))
+        ≡ eqb (getD text (at + i) 0) byte || contains byte (part text (at + (i + 1)) (width - (i + 1)))
     block-next l =
-        let n : 64 - i ≡ suc (64 - (i + 1)) = omega arith in
+        let n : width - i ≡ suc (width - (i + 1)) = omega arith in
         let m : at + (i + 1) ≡ at + i + 1 = omega arith in
-        rw (n, m) (contains-first (at + i) (64 - (i + 1)) (omega arith))
+        rw (n, m) (contains-first (at + i) (width - (i + 1)) (omega arith))
 
     -- the byte is found
-    pub block-hit : i < 64 → getD text (at + i) 0 ≡ byte → contains byte (part text at 64) ≡ true
+    pub block-hit : i < width → getD text (at + i) 0 ≡ byte → contains byte (part text at width) ≡ true
     block-hit l e = seen ∙ rw (block-next l, eq-eqb (getD text (at + i) 0) byte e) (or-true found)
 
     -- it is another one
-    pub block-miss : i < 64 → (getD text (at + i) 0 ≡ byte → ⊥)
-        → contains byte (part text at 64) ≡ found || contains byte (part text (at + (i + 1)) (64 - (i + 1)))
+    pub block-miss : i < width → (getD text (at + i) 0 ≡ byte → ⊥)
+        → contains byte (part text at width) ≡ found || contains byte (part text (at + (i + 1)) (width - (i + 1)))
     block-miss l e = seen ∙ rw (block-next l, ne-eqb (getD text (at + i) 0) byte e)
 
     -- no byte is left
-    pub block-all : 64 ≤ i → found ≡ contains byte (part text at 64)
+    pub block-all : width ≤ i → found ≡ contains byte (part text at width)
     unfolding part contains
     block-all l =
-        let n : 64 - i ≡ 0 = omega arith in
+        let n : width - i ≡ 0 = omega arith in
         sym (seen ∙ rw n (or-false found))
 
 -- the last block ends with the text

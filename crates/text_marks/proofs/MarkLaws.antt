@@ -1,6 +1,6 @@
 -- Laws of barred bytes: of a string that holds one, of the first from a position on, and of what a block's marks tell of it. Assumes nothing.
 use Prim.Native.Nat.{ℕ, zero, suc, _+_, _-_, _*_, _/_, _%_, _^_, _≤_, _<_}
-use mathlib.Core.Bool.{Bool, true, false, cond, _&&_, _||_, or-true}
+use mathlib.Core.Bool.{Bool, true, false, cond, _&&_, _||_, or-true, true≢false}
 use mathlib.Core.List.{List, [], _∷_}
 use mathlib.Core.Logic.{⊎-elim}
 use mathlib.Core.Path.{_≡_, refl, sym, ap, ap₂, _∙_, subst}
@@ -11,7 +11,7 @@ use lib.Count.{trailingZeros, under}
 use lib.Dec.{eqb, ltb}
 use lib.ListN.{length, getD, take, drop, set, length-drop}
 use lib.Pow.{shr-shr}
-use lib.Seq.{getD-drop, getD-set-same, getD-set-other}
+use lib.Seq.{take-all, getD-drop, getD-set-same, getD-set-other}
 use Rattle.model.specs.Bytes.{part, contains}
 use Rattle.parts.proofs.FoundLaws.{Found, found, found-here, found-on, found-done}
 use Rattle.laws.proofs.Cases.{below-or, cond-cases}
@@ -74,6 +74,40 @@ take-clean true (x ∷ s) zero h = refl
 take-clean names (x ∷ s) (suc n) h =
     holds-cons names x (take n s)
     ∙ rw (h 0 (omega arith) (omega arith), take-clean names s n (λ i l u. h (suc i) (omega arith) (omega arith)))
+
+-- the bytes before a position, and those from it on
+either : (a b c : Bool) → (a || (b || c)) ≡ ((a || b) || c)
+either true b c = refl
+either false b c = refl
+
+split : (names : Bool) (s : List ℕ) (n : ℕ) → n ≤ length s → holdsBarred names s ≡ (holdsBarred names (take n s) || holdsBarred names (drop n s))
+split names s zero h = ap (λ (b : Bool). b || holdsBarred names s) (sym (take-clean names s 0 (λ i l u. absurd (omega arith))))
+split names [] (suc n) h = absurd (omega arith)
+split names (x ∷ s) (suc n) h =
+    holds-cons names x s
+    ∙ ap (λ (b : Bool). barred names x || b) (split names s n (omega arith))
+    ∙ either (barred names x) (holdsBarred names (take n s)) (holdsBarred names (drop n s))
+    ∙ ap (λ (b : Bool). b || holdsBarred names (drop n s)) (sym (holds-cons names x (take n s)))
+
+fewer-clean : (names : Bool) (s : List ℕ) (m n : ℕ) → m ≤ n → holdsBarred names (take n s) ≡ false → holdsBarred names (take m s) ≡ false
+fewer-clean names s m n l e = take-clean names s m (λ i h u. by i h u (barred names (getD s i 0)) refl)
+  where
+    by : (i : ℕ) → i < m → i < length s → (b : Bool) → barred names (getD s i 0) ≡ b → b ≡ false
+    by i h u false f = refl
+    by i h u true f = absurd (true≢false (sym (take-hit names s n i (omega arith) u f) ∙ e))
+
+-- two parts that are together a whole string
+module _ (names : Bool) (s : List ℕ) (n at m : ℕ) (meet : at ≤ n) (first : n ≤ length s) (last : at + m ≡ length s) where
+  pub parts-hit : holdsBarred names (part s 0 n) ≡ true → true ≡ holdsBarred names s
+  unfolding part
+  parts-hit e = sym (split names s n first ∙ ap (λ (b : Bool). b || holdsBarred names (drop n s)) e)
+
+  pub parts-miss : holdsBarred names (part s 0 n) ≡ false → holdsBarred names (part s at m) ≡ holdsBarred names s
+  unfolding part
+  parts-miss e =
+      let all : take m (drop at s) ≡ drop at s = take-all m (drop at s) (simp length-drop (omega arith)) in
+      ap (holdsBarred names) all
+      ∙ sym (split names s at (omega arith) ∙ ap (λ (b : Bool). b || holdsBarred names (drop at s)) (fewer-clean names s at n meet e))
 
 module _ (names : Bool) (text : List ℕ) where
   abbrev at-barred : ℕ → Bool

@@ -2,6 +2,9 @@
 use strings::holds_byte;
 ghost use mathlib.Core.Bool.{true};
 ghost use mathlib.Core.Path.{_≡_};
+ghost use Prim.Native.Nat.{_+_, _≤_};
+ghost use lib.ListN.{length};
+ghost use Rattle.model.specs.Bytes.{part, contains};
 ghost use Rattle.text_marks.specs.Barred.{holdsBarred, barred};
 
 // A zero byte is barred everywhere, a slash in names.
@@ -15,6 +18,44 @@ pub fn is_barred(b: u8, names: bool) -> bool
         return b == b'/';
     }
     false
+}
+
+// Whether a byte stands in a part of so many bytes. No early exit: where their number is written at the call, the loop is compiled to a few
+// vector instructions, with nothing to set up.
+pub fn block_holds(s: &[u8], byte: u8, at: usize, width: usize) -> bool
+    requires { ⌜ at + width ≤ length (now s) ⌝ }
+    ensures { λ r. ⌜ r ≡ contains byte (part (now (s .entry)) at width) ⌝ }
+{
+    let mut found = false;
+    let mut i = 0;
+    while i < width {
+        if s[at + i] == byte {
+            found = true;
+        }
+        i += 1;
+    }
+    found
+}
+
+fn eight_holds(s: &[u8], at: usize) -> bool
+    requires { ⌜ at + 8 ≤ length (now s) ⌝ }
+    ensures { λ r. ⌜ r ≡ holdsBarred true (part (now (s .entry)) at 8) ⌝ }
+{
+    if block_holds(s, 0, at, 8) {
+        return true;
+    }
+    block_holds(s, b'/', at, 8)
+}
+
+// Of a name of 8 to 16 bytes: its first eight, and its last eight, which may overlap them.
+fn eights_hold(s: &[u8]) -> bool
+    requires { ⌜ (8 ≤ length (now s)) × (length (now s) ≤ 16) ⌝ }
+    ensures { λ r. ⌜ r ≡ holdsBarred true (now (s .entry)) ⌝ }
+{
+    if eight_holds(s, 0) {
+        return true;
+    }
+    eight_holds(s, s.len() - 8)
 }
 
 // Of a name, byte by byte.
@@ -53,17 +94,18 @@ fn long_holds(s: &[u8]) -> bool
     slash
 }
 
-// Names shorter than this are read byte by byte: setting vector code up costs more than it saves.
-const SHORT: usize = 16;
-
+// Setting vector code up for a short string costs more than it saves.
 pub fn holds_barred(s: &[u8], names: bool) -> bool
     ensures { λ r. ⌜ r ≡ holdsBarred names (now (s .entry)) ⌝ }
 {
     if !names {
         return holds_byte(s, 0);
     }
-    if s.len() < SHORT {
+    if s.len() < 8 {
         return short_holds(s);
+    }
+    if s.len() < 16 {
+        return eights_hold(s);
     }
     long_holds(s)
 }

@@ -3,6 +3,7 @@ use borrow.Author.Needs.{needs}
 use borrow.Author.Tests.{not-true, not-false}
 use mathlib.Core.Bool.{true, false, or-false}
 use mathlib.Core.Path.{_≡_, sym, ap, _∙_}
+use native.Mathlib.Omega.{arith}
 use denote.Ref.{now}
 use Rattle.text_marks.specs.Barred.{holdsBarred}
 use Rattle.text_marks.proofs.bytes.holds_barred.Statement.{statement}
@@ -27,13 +28,22 @@ returns-2 c =
     let of-names : a .names ≡ true = not-false _ (c .before .before .if1 .left) in
     c .short-holds .ensures ∙ ap (λ n. holdsBarred n (now (a .s))) (sym of-names)
 
-long-holds-requires : tie.Need-long-holds-requires
-long-holds-requires c κs = search needs
+eights-hold-requires : tie.Need-eights-hold-requires
+eights-hold-requires c κs = (omega arith, omega arith)
 
 returns-3 : tie.Need-returns-3
 returns-3 c =
-    let a = c .before .before .before .before .args in
-    let of-names : a .names ≡ true = not-false _ (c .before .before .if1 .left) in
+    let a = c .before .before .before .before .before .args in
+    let of-names : a .names ≡ true = not-false _ (c .before .before .before .if1 .left) in
+    c .eights-hold .ensures ∙ ap (λ n. holdsBarred n (now (a .s))) (sym of-names)
+
+long-holds-requires : tie.Need-long-holds-requires
+long-holds-requires c κs = search needs
+
+returns-4 : tie.Need-returns-4
+returns-4 c =
+    let a = c .before .before .before .before .before .args in
+    let of-names : a .names ≡ true = not-false _ (c .before .before .before .if1 .left) in
     c .long-holds .ensures ∙ ap (λ n. holdsBarred n (now (a .s))) (sym of-names)
 
 pub holds-barred-spec : {M : Type 1} → statement M
@@ -44,5 +54,7 @@ holds-barred-spec =
     returns
     short-holds-requires
     returns-2
+    eights-hold-requires
+    returns-3
     long-holds-requires
-    returns-3)
+    returns-4)

@@ -1,4 +1,4 @@
--- `text_marks::blocks::block_holds` meets its contract. The loop's invariant: the byte stands in the block if it was found, or stands in
+-- `text_marks::bytes::block_holds` meets its contract. The loop's invariant: the byte stands in the part if it was found, or stands in
 -- what is left of it from `i` on. Assumes nothing.
 use Prim.Native.Nat.{_+_, _-_, _≤_}
 use mathlib.Core.Bool.{_||_}
@@ -9,17 +9,19 @@ use native.Mathlib.Nat.{add-zero}
 use denote.Ref.{now}
 use Rattle.model.specs.Bytes.{part, contains}
 use Rattle.text_marks.proofs.BlockLaws.{block-hit, block-miss, block-all}
-use Rattle.text_marks.proofs.blocks.block_holds.Statement.{statement}
-use Rattle.text_marks.proofs.blocks.block_holds.Tie as tie
+use Rattle.text_marks.proofs.bytes.block_holds.Statement.{statement}
+use Rattle.text_marks.proofs.bytes.block_holds.Tie as tie
 
 abbrev Inv-loop : tie.InvT-loop
-Inv-loop text byte at found₀ i₀ found i = (i ≤ 64) × (contains byte (part text at 64) ≡ found || contains byte (part text (at + i) (64 - i)))
+Inv-loop s byte at width found₀ i₀ found i = (i ≤ width) × (contains byte (part s at width) ≡ found || contains byte (part s (at + i) (width - i)))
 
 abbrev μ-loop : tie.MeasureT-loop
-μ-loop text byte at found₀ i₀ found i = 64 - i
+μ-loop s byte at width found₀ i₀ found i = width - i
 
 loop-holds : tie.Need-loop-holds Inv-loop μ-loop
-loop-holds c = (omega arith, rw (add-zero (c .args .at)))
+loop-holds c =
+    let all : c .args .width - 0 ≡ c .args .width = omega arith in
+    (omega arith, rw (add-zero (c .args .at), all))
 
 add-if1 : tie.Need-add-if1 Inv-loop μ-loop
 add-if1 c = omega arith
@@ -41,8 +43,8 @@ loop-again c =
     let test = c .before .before .loop-test .taken in (
       omega arith,
       ⊎-elim
-          (λ w. block-hit (a .byte) (now (a .text)) (a .at) (l .i) (l .found) (start .pre) (l .inv .1) test (w .0 .taken) ∙ rw (w .1))
-          (λ w. block-miss (a .byte) (now (a .text)) (a .at) (l .i) (l .found) (start .pre) (l .inv .1) test (w .0 .left) ∙ rw (w .1))
+          (λ w. block-hit (a .byte) (now (a .s)) (a .at) (a .width) (l .i) (l .found) (start .pre) (l .inv .1) test (w .0 .taken) ∙ rw (w .1))
+          (λ w. block-miss (a .byte) (now (a .s)) (a .at) (a .width) (l .i) (l .found) (start .pre) (l .inv .1) test (w .0 .left) ∙ rw (w .1))
           (c .if1 .came),
     )
 
@@ -51,7 +53,7 @@ returns c =
     let start = c .before .before in
     let a = start .args in
     let l = c .before .loop in
-    block-all (a .byte) (now (a .text)) (a .at) (l .i) (l .found) (start .pre) (l .inv .1) (c .loop-test .left)
+    block-all (a .byte) (now (a .s)) (a .at) (a .width) (l .i) (l .found) (start .pre) (l .inv .1) (c .loop-test .left)
 
 pub block-holds-spec : {M : Type 1} → statement M
 block-holds-spec =
