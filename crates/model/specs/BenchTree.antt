@@ -9,7 +9,7 @@ use Rattle.model.specs.Bytes.{fieldBytes, ascii}
 use Rattle.model.specs.Answers.{notWalked, refused}
 use Rattle.model.specs.OpenHow.{O-DIRECTORY, O-NOFOLLOW, O-PATH, NO-XDEV, NO-MAGICLINKS, NO-SYMLINKS, BENEATH, IN-ROOT}
 use Rattle.model.specs.Walk.{placeAt}
-use Rattle.model.specs.Resolve.{resolve, placesOf}
+use Rattle.model.specs.Resolve.{Call, callOf, resolve, placesOf}
 use Rattle.model.specs.declared.Place.{Place}
 use Rattle.model.specs.declared.Handle.{Handle}
 use Rattle.model.specs.declared.Errno.{Errno}
@@ -80,38 +80,28 @@ bench =
 unfoldable pub openHow : ℕ → ℕ → List ℕ
 openHow flags how = fieldBytes 8 flags ++ fieldBytes 2 0 ++ fieldBytes 6 0 ++ fieldBytes 8 how
 
--- a call and its answer
-pub record Case : Type 0 where
-  pub image : List ℕ
-  pub handle : Handle
-  pub path : List ℕ
-  pub flags : ℕ
-  pub bits : ℕ
-  pub expected : Answer
-
 abbrev pub handleAt : ℕ → ℕ → Bool → Handle
 handleAt m n marked = record { mount = m; node = n; mark = marked }
 
+-- a call by mount, node and mark of its handle, path, flags and bits of resolve
+abbrev pub callAt : ℕ → ℕ → Bool → List ℕ → ℕ → ℕ → Call
+callAt m n marked path flags bits = callOf (handleAt m n marked) path (openHow flags bits)
+
+-- an image, a call over it, and the answer
+pub record Case : Type 0 where
+  pub image : List ℕ
+  pub call : Call
+  pub expected : Answer
+
+abbrev pub case : List ℕ → Call → Answer → Case
+case image c a = record { image = image; call = c; expected = a }
+
 -- "Handle (0,1), flags and resolve 0 unless said."
 abbrev pub call : String → ℕ → ℕ → Answer → Case
-call path flags bits a = record {
-  image = bench;
-  handle = handleAt 0 1 false;
-  path = ascii path;
-  flags = flags;
-  bits = bits;
-  expected = a;
-}
+call path flags bits = case bench (callAt 0 1 false (ascii path) flags bits)
 
 abbrev pub markedCall : String → ℕ → Answer → Case
-markedCall path bits a = record {
-  image = bench;
-  handle = handleAt 0 1 true;
-  path = ascii path;
-  flags = 0;
-  bits = bits;
-  expected = a;
-}
+markedCall path bits = case bench (callAt 0 1 true (ascii path) 0 bits)
 
 -- "Shown: answer; components, links."
 abbrev pub at : ℕ → ℕ → ℕ → ℕ → Answer
@@ -164,28 +154,14 @@ magicPath zero = []
 magicPath (suc n) = ascii "m/" ++ magicPath n
 
 abbrev pub magicCall : ℕ → Answer → Case
-magicCall n a = record {
-  image = magicLoop;
-  handle = handleAt 0 0 false;
-  path = magicPath n;
-  flags = 0;
-  bits = 0;
-  expected = a;
-}
+magicCall n = case magicLoop (callAt 0 0 false (magicPath n) 0 0)
 
 -- Rows of our own, for slips that document 01's rows do not show: the handle told by node alone; mark and BENEATH swapped in a row;
 -- NO_SYMLINKS at an unfollowed last link; an unknown bit above 31; NO_XDEV at an absolute given path; ".." folded as text; magic
 -- links not counted against the 40.
 unfoldable pub ownTable : List Case
 ownTable =
-    record {
-      image = bind;
-      handle = handleAt 0 1 false;
-      path = ascii "pool/..";
-      flags = 0;
-      bits = BENEATH;
-      expected = at 0 1 2 0;
-    }
+    case bind (callAt 0 1 false (ascii "pool/..") 0 BENEATH) (at 0 1 2 0)
     ∷ markedCall "/lab" BENEATH (error Enoent 0 0)
     ∷ markedCall ".." BENEATH (error Enoent 1 0)
     ∷ markedCall "cal/fd" BENEATH (error Enoent 2 0)
@@ -193,14 +169,7 @@ ownTable =
     ∷ call "cal/abs" (O-PATH + O-NOFOLLOW) NO-SYMLINKS (at 0 5 2 0)
     ∷ call "cal" (2 ^ 32) 0 (Refused (record { errno = Einval; detail = 32; progress = notWalked }))
     ∷ call "cal" 0 (2 ^ 63) (Refused (record { errno = Einval; detail = 127; progress = notWalked }))
-    ∷ record {
-      image = bench;
-      handle = handleAt 1 8 false;
-      path = ascii "/lab";
-      flags = 0;
-      bits = NO-XDEV;
-      expected = at 0 1 1 0;
-    }
+    ∷ case bench (callAt 1 8 false (ascii "/lab") 0 NO-XDEV) (at 0 1 1 0)
     ∷ call "cal/up/.." 0 0 (at 0 0 5 1)
     ∷ magicCall 40 (at 0 0 40 40)
     ∷ magicCall 41 (error Eloop 41 40)
@@ -208,18 +177,15 @@ ownTable =
 
 -- what the resolver answers to a case
 unfoldable pub run : Case → Answer
-run c = resolve (c .image) (c .handle) (c .path) (openHow (c .flags) (c .bits))
+run c = resolve (c .image) (c .call)
 
 -- a call over the bench tree from (0,1), marked or not, and the places that its walk stands on
 pub record Stood : Type 0 where
-  pub marked : Bool
-  pub path : List ℕ
-  pub flags : ℕ
-  pub bits : ℕ
+  pub call : Call
   pub places : List Place
 
 abbrev pub stands : Bool → String → ℕ → ℕ → List Place → Stood
-stands marked path flags bits ps = record { marked = marked; path = ascii path; flags = flags; bits = bits; places = ps }
+stands marked path flags bits ps = record { call = callAt 0 1 marked (ascii path) flags bits; places = ps }
 
 -- The places of calls above: the start, then where each component and each followed link leads. A mount's point is passed on the way
 -- up, a walk that is stopped goes no further, and one that is refused at Start, or before, stands nowhere.
@@ -239,4 +205,4 @@ stoodTable =
     ∷ []
 
 unfoldable pub stood : Stood → List Place
-stood c = placesOf bench (handleAt 0 1 (c .marked)) (c .path) (openHow (c .flags) (c .bits))
+stood c = placesOf bench (c .call)

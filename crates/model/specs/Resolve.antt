@@ -21,6 +21,15 @@ use Rattle.model.specs.declared.Answer.the-variants.{Refused}
 use Rattle.model.specs.declared.Verdict.{Verdict}
 use Rattle.model.specs.declared.Verdict.the-variants.{Accepted, Broken}
 
+-- A call over an image: a directory handle, the bytes of the path and those of the open_how.
+pub record Call : Type 0 where
+  pub handle : Handle
+  pub path : List ℕ
+  pub how : List ℕ
+
+abbrev pub callOf : Handle → List ℕ → List ℕ → Call
+callOf h path how = record { handle = h; path = path; how = how }
+
 -- "117 EUCLEAN (house): the table check fails"
 abbrev pub refusedTable : Verdict → Option Refusal
 refusedTable Accepted = none
@@ -33,40 +42,40 @@ refusedBefore image h path how =
     orElse (refusedTable (tableCheck image)) (orElse (howRefused how) (orElse (pathRefused path) (handleRefused (treeOf image) h)))
 
 -- the restrictions that a call sets
-unfoldable pub restrictions : Handle → List ℕ → Restrictions
-restrictions h how mark = h .mark
-restrictions h how beneath = has BENEATH (resolveOf how)
-restrictions h how noXdev = has NO-XDEV (resolveOf how)
-restrictions h how noSymlinks = has NO-SYMLINKS (resolveOf how)
-restrictions h how noMagiclinks = has NO-MAGICLINKS (resolveOf how)
+unfoldable pub restrictions : Call → Restrictions
+restrictions call mark = call .handle .mark
+restrictions call beneath = has BENEATH (resolveOf (call .how))
+restrictions call noXdev = has NO-XDEV (resolveOf (call .how))
+restrictions call noSymlinks = has NO-SYMLINKS (resolveOf (call .how))
+restrictions call noMagiclinks = has NO-MAGICLINKS (resolveOf (call .how))
 
 -- "The root is the handle under IN_ROOT, else mount 0's root." "A last link is followed unless O_NOFOLLOW is set and the given
 -- path does not end in "/"."
-unfoldable pub requestOf : List ℕ → Handle → List ℕ → List ℕ → Request
-requestOf image h path how = record {
+unfoldable pub requestOf : List ℕ → Call → Request
+requestOf image call = record {
   tree = treeOf image;
-  handle = placeOf h;
-  root = cond (has IN-ROOT (resolveOf how)) (placeOf h) (rootOf (treeOf image) 0);
-  inRoot = has IN-ROOT (resolveOf how);
-  followLast = not (has O-NOFOLLOW (flagsOf how)) || endsInSlash path;
-  pathOnly = has O-PATH (flagsOf how);
+  handle = placeOf (call .handle);
+  root = cond (has IN-ROOT (resolveOf (call .how))) (placeOf (call .handle)) (rootOf (treeOf image) 0);
+  inRoot = has IN-ROOT (resolveOf (call .how));
+  followLast = not (has O-NOFOLLOW (flagsOf (call .how))) || endsInSlash (call .path);
+  pathOnly = has O-PATH (flagsOf (call .how));
 }
 
 -- "A directory is required by O_DIRECTORY, by a "/" ending the path, .."
-unfoldable pub traceOf : List ℕ → Handle → List ℕ → List ℕ → Trace
-traceOf image h path how =
-    walkPath (requestOf image h path how) (has O-DIRECTORY (flagsOf how) || endsInSlash path) path
+unfoldable pub traceOf : List ℕ → Call → Trace
+traceOf image call =
+    walkPath (requestOf image call) (has O-DIRECTORY (flagsOf (call .how)) || endsInSlash (call .path)) (call .path)
 
 abbrev pub unlessRefused : Option Refusal → Answer → Answer
 unlessRefused none a = a
 unlessRefused (some r) a = Refused r
 
 -- What the resolver answers: the refusal before the walk, else the walk's answer under the restrictions set.
-unfoldable pub resolve : List ℕ → Handle → List ℕ → List ℕ → Answer
-resolve image h path how =
-    unlessRefused (refusedBefore image h path how) (answer (restrictions h how) (traceOf image h path how))
+unfoldable pub resolve : List ℕ → Call → Answer
+resolve image call =
+    unlessRefused (refusedBefore image (call .handle) (call .path) (call .how)) (answer (restrictions call) (traceOf image call))
 
 -- the places that a call's walk stands on; a call refused before the walk stands on none
-unfoldable pub placesOf : List ℕ → Handle → List ℕ → List ℕ → List Place
-placesOf image h path how =
-    ifNone (refusedBefore image h path how) (stoodOn (restrictions h how) (traceOf image h path how))
+unfoldable pub placesOf : List ℕ → Call → List Place
+placesOf image call =
+    ifNone (refusedBefore image (call .handle) (call .path) (call .how)) (stoodOn (restrictions call) (traceOf image call))

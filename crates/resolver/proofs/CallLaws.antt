@@ -25,7 +25,7 @@ use Rattle.laws.proofs.Refusals.{unrefused, path-short, handle-inside}
 use Rattle.parts.specs.declared.records.Counts.{Counts}
 use Rattle.component.specs.Walking.{Reading, Walking}
 use Rattle.component.specs.declared.Ask.{Ask}
-use Rattle.model.specs.Resolve.{refusedBefore, restrictions, requestOf, traceOf, resolve}
+use Rattle.model.specs.Resolve.{callOf, refusedBefore, restrictions, requestOf, traceOf, resolve}
 use Rattle.model.specs.declared.Handle.{Handle}
 use Rattle.model.specs.declared.Refusal.{Refusal}
 use Rattle.model.specs.declared.Answer.the-variants.{Refused}
@@ -45,7 +45,7 @@ refused-some none f r e = let z : _≡_ {A = ℕ} 0 1 = cc in absurd (omega arit
 refused-some (some q) f r e = cc
 
 module _ (s : List ℕ) (h : Handle) (path how : List ℕ) where
-  same-restrictions : (r : Restriction) → restrictionsFor (askOf s h (fieldsOf how) (endsInSlash path)) r ≡ restrictions h how r
+  same-restrictions : (r : Restriction) → restrictionsFor (askOf s h (fieldsOf how) (endsInSlash path)) r ≡ restrictions (callOf h path how) r
   unfolding restrictions
   same-restrictions mark = refl
   same-restrictions beneath = refl
@@ -55,20 +55,20 @@ module _ (s : List ℕ) (h : Handle) (path how : List ℕ) where
 
   -- the walk of what the call asks is the definition's answer
   pub asked : refusedBefore s h path how ≡ none
-      → answer (restrictionsFor (askOf s h (fieldsOf how) (endsInSlash path))) (walkPath (requestFor s (askOf s h (fieldsOf how) (endsInSlash path))) (has O-DIRECTORY (flagsOf how) || endsInSlash path) path) ≡ resolve s h path how
+      → answer (restrictionsFor (askOf s h (fieldsOf how) (endsInSlash path))) (walkPath (requestFor s (askOf s h (fieldsOf how) (endsInSlash path))) (has O-DIRECTORY (flagsOf how) || endsInSlash path) path) ≡ resolve s (callOf h path how)
   unfolding resolve traceOf requestOf
   asked e =
       ap (λ R. answer R (walkPath (requestFor s (askOf s h (fieldsOf how) (endsInSlash path))) (has O-DIRECTORY (flagsOf how) || endsInSlash path) path)) (fun-ext same-restrictions)
       ∙ rw e
 
-  pub refused-call : (r : Refusal) → refusedBefore s h path how ≡ some r → Refused r ≡ resolve s h path how
+  pub refused-call : (r : Refusal) → refusedBefore s h path how ≡ some r → Refused r ≡ resolve s (callOf h path how)
   unfolding resolve
   refused-call r e = rw e
 
   -- the same from what the code has in hand
   pub walked : (f : How) (slash : Bool) (k : Ask) (directory : Bool) → refusedBefore s h path how ≡ none → fieldsOf how ≡ f → slash ≡ endsInSlash path
       → k ≡ askOf s h f slash → directory ≡ has O-DIRECTORY (f .flags) || slash
-      → answer (restrictionsFor k) (walkPath (requestFor s k) directory path) ≡ resolve s h path how
+      → answer (restrictionsFor k) (walkPath (requestFor s k) directory path) ≡ resolve s (callOf h path how)
   walked f slash k directory none-before fields slash-is k-is directory-is =
       ap₂ (λ x d. answer (restrictionsFor x) (walkPath (requestFor s x) d path))
       (k-is ∙ ap₂ (askOf s h) (sym fields) slash-is)
@@ -89,6 +89,6 @@ module _ (s : List ℕ) (h : Handle) (path how : List ℕ) where
       )
 
   -- a refused table refuses every call
-  pub broken-call : (rule r : ℕ) → tableCheck s ≡ Broken rule r → refused Euclean notWalked ≡ resolve s h path how
+  pub broken-call : (rule r : ℕ) → tableCheck s ≡ Broken rule r → refused Euclean notWalked ≡ resolve s (callOf h path how)
   unfolding resolve refusedBefore
   broken-call rule r e = rw e

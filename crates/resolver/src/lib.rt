@@ -39,7 +39,7 @@ ghost use Rattle.model.specs.TableCheck.{tableCheck};
 ghost use Rattle.model.specs.Trace.{answer};
 ghost use Rattle.model.specs.Walk.{beginAt, walkPath};
 ghost use Rattle.model.specs.Answers.{progressOf};
-ghost use Rattle.model.specs.Resolve.{resolve};
+ghost use Rattle.model.specs.Resolve.{callOf, resolve};
 ghost use Rattle.model.specs.declared.Verdict.the-variants.{Accepted};
 ghost use Rattle.theorems.specs.Bounded.{Bounded};
 ghost use Rattle.laws.specs.Inside.{Inside};
@@ -166,7 +166,7 @@ fn ask(image: &[u8], c: Counts, h: Handle, f: How, slash: bool) -> Ask
 // The answer over a table that was accepted before, for a caller who checked it once.
 pub fn resolve_accepted<'a>(image: &'a [u8], h: Handle, path: &'a [u8], how: &[u8]) -> Answer
     requires { ⌜ tableCheck (now image) ≡ Accepted ⌝ }
-    ensures { λ r. ⌜ (r ≡ resolve (now (image .entry)) h (now (path .entry)) (now (how .entry))) × Bounded (progressOf r)
+    ensures { λ r. ⌜ (r ≡ resolve (now (image .entry)) (callOf h (now (path .entry)) (now (how .entry)))) × Bounded (progressOf r)
         × (now (image .exit) ≡ now (image .entry)) × (now (path .exit) ≡ now (path .entry)) × (now (how .exit) ≡ now (how .entry)) ⌝ }
 {
     let c = read_counts(image);
@@ -183,7 +183,7 @@ pub fn resolve_accepted<'a>(image: &'a [u8], h: Handle, path: &'a [u8], how: &[u
 
 // The answer, for any bytes at all. Its counts are at most 83,968 and 40, and what is lent stays as it was.
 pub fn resolve<'a>(image: &'a [u8], h: Handle, path: &'a [u8], how: &[u8]) -> Answer
-    ensures { λ r. ⌜ (r ≡ resolve (now (image .entry)) h (now (path .entry)) (now (how .entry))) × Bounded (progressOf r)
+    ensures { λ r. ⌜ (r ≡ resolve (now (image .entry)) (callOf h (now (path .entry)) (now (how .entry)))) × Bounded (progressOf r)
         × (now (image .exit) ≡ now (image .entry)) × (now (path .exit) ≡ now (path .entry)) × (now (how .exit) ≡ now (how .entry)) ⌝ }
 {
     let verdict = check(image);
@@ -214,7 +214,7 @@ pub fn resolve_pair<'a>(
     then: Handle,
     restricted: &[u8],
 ) -> Pair
-    ensures { λ r. ⌜ Compared (now (image .entry)) (now (path .entry)) h (now (how .entry)) then (now (restricted .entry)) (r .first) (r .second)
+    ensures { λ r. ⌜ Compared (now (image .entry)) (callOf h (now (path .entry)) (now (how .entry))) (callOf then (now (path .entry)) (now (restricted .entry))) (r .first) (r .second)
         × (now (image .exit) ≡ now (image .entry)) × (now (path .exit) ≡ now (path .entry)) × (now (how .exit) ≡ now (how .entry))
         × (now (restricted .exit) ≡ now (restricted .entry)) ⌝ }
 {

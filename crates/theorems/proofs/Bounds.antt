@@ -16,11 +16,10 @@ use Rattle.model.specs.Handles.{placeOf}
 use Rattle.model.specs.Trace.{Event, Restrictions, Trace, stop, meet, stand, meets, forbids, refusedBy, answer}
 use Rattle.model.specs.Walk.{Request, rootOf, Landing, outside, target, reading, Step, fail, go, follow, oneComponent, taken, finish, isEmpty, Turn, refuses, went, followed, Transition}
 use Rattle.model.specs.Walk.{land, transitionBy, transition, turned, walkPending, noneLeft, walk, beginAt, walkPath}
-use Rattle.model.specs.Resolve.{refusedBefore, restrictions, requestOf, traceOf, unlessRefused, resolve}
+use Rattle.model.specs.Resolve.{Call, refusedBefore, restrictions, requestOf, traceOf, unlessRefused, resolve}
 use Rattle.model.specs.declared.Place.{Place}
 use Rattle.model.specs.declared.Progress.{Progress}
 use Rattle.model.specs.declared.State.{State}
-use Rattle.model.specs.declared.Handle.{Handle}
 use Rattle.model.specs.declared.Refusal.{Refusal}
 use Rattle.model.specs.declared.Errno.{Errno}
 use Rattle.model.specs.declared.Answer.{Answer}
@@ -156,20 +155,25 @@ module _ (a : Request) (sound : Sound (a .tree)) (root : Inside (a .tree) (a .ro
       (λ _. (not-walked-bounded, begin-within directory path (a .root) h root))
       (λ _. begin-within directory path (a .handle) h i)
 
-resolve-bounded-by : (image : List ℕ) (h : Handle) (path how : List ℕ) (o : Option Refusal) → refusedBefore image h path how ≡ o
-    → Uncounted o → Bounded (progressOf (unlessRefused o (answer (restrictions h how) (traceOf image h path how))))
+resolve-bounded-by : (image : List ℕ) (call : Call) (o : Option Refusal) → refusedBefore image (call .handle) (call .path) (call .how) ≡ o
+    → Uncounted o → Bounded (progressOf (unlessRefused o (answer (restrictions call) (traceOf image call))))
 unfolding traceOf requestOf
-resolve-bounded-by image h path how (some r) e u = subst Bounded (sym u) not-walked-bounded
-resolve-bounded-by image h path how none e u =
-    let un = unrefused image h path how e in
+resolve-bounded-by image call (some r) e u = subst Bounded (sym u) not-walked-bounded
+resolve-bounded-by image call none e u =
+    let tree = treeOf image in
+    let un = unrefused image (call .handle) (call .path) (call .how) e in
     let sound = accepted-sound image (un .table-passes) in
-    let handle = handle-inside (treeOf image) h (un .handle-passes) in
-    let root = cond-cases (Inside (treeOf image)) (has IN-ROOT (resolveOf how)) (placeOf h) (rootOf (treeOf image) 0) (λ _. handle) (λ _. root-inside (treeOf image) sound 0 (sound .mounts-hold .some-mount)) in
-    answer-within (restrictions h how) (traceOf image h path how)
-    (path-within (requestOf image h path how) sound root (has O-DIRECTORY (flagsOf how) || endsInSlash path) path (path-short path (un .path-passes)) handle)
+    let handle = handle-inside tree (call .handle) (un .handle-passes) in
+    let root =
+    cond-cases (Inside tree) (has IN-ROOT (resolveOf (call .how))) (placeOf (call .handle)) (rootOf tree 0)
+    (λ _. handle) (λ _. root-inside tree sound 0 (sound .mounts-hold .some-mount)) in
+    let directory = has O-DIRECTORY (flagsOf (call .how)) || endsInSlash (call .path) in
+    answer-within (restrictions call) (traceOf image call)
+    (path-within (requestOf image call) sound root directory (call .path) (path-short (call .path) (un .path-passes)) handle)
 
 -- whatever the bytes
 pub every-walk-bounded : EveryWalk
 unfolding resolve
-every-walk-bounded image h path how =
-    resolve-bounded-by image h path how (refusedBefore image h path how) refl (before-uncounted image h path how)
+every-walk-bounded image call =
+    let before = refusedBefore image (call .handle) (call .path) (call .how) in
+    resolve-bounded-by image call before refl (before-uncounted image (call .handle) (call .path) (call .how))

@@ -19,8 +19,8 @@ use Rattle.model.specs.Answers.{refused}
 use Rattle.model.specs.OpenHow.{flagsOf, modeOf, paddingOf, resolveOf, unknownBit, tailSet, bothScopes, modeSet, howRefused, knownResolve, NO-XDEV, NO-MAGICLINKS, NO-SYMLINKS, BENEATH, IN-ROOT}
 use Rattle.model.specs.Handles.{placeOf, handleRefused}
 use Rattle.model.specs.Trace.{Restriction, mark, beneath, noXdev, noSymlinks, noMagiclinks, Restrictions}
-use Rattle.model.specs.Resolve.{refusedBefore, restrictions, requestOf, traceOf, resolve}
-use Rattle.theorems.specs.Adding.{Added, addedBits, Adds, Meeting, eventsOf, firstForbidden, withBits, withMark, OnlyStops, Demand3}
+use Rattle.model.specs.Resolve.{Call, refusedBefore, restrictions, requestOf, traceOf, resolve}
+use Rattle.theorems.specs.Adding.{Added, addedBits, Adds, Meeting, eventsOf, firstForbidden, withBits, withMark, withAdded, OnlyStops, Demand3}
 use Rattle.model.specs.declared.Handle.{Handle}
 use Rattle.model.specs.declared.Progress.{Progress}
 use Rattle.model.specs.declared.Reached.{Reached}
@@ -92,8 +92,14 @@ scopes true b true off = absurd (true≢false (off refl))
 scopes true b false off = and-false (b || true) ∙ sym (and-false b)
 scopes false b r off = ap (λ (t : Bool). t && r) (or-false b)
 
-module _ (added : Restrictions) (h : Handle) (how : List ℕ) (h′ : Handle) (how′ : List ℕ) (adds : Adds added h how h′ how′)
-    (scope : added beneath ≡ true → has IN-ROOT (resolveOf how) ≡ false) (long : 24 ≤ length how) where
+module _ (added : Restrictions) (call call′ : Call) (adds : Adds added call call′)
+    (scope : added beneath ≡ true → has IN-ROOT (resolveOf (call .how)) ≡ false) (long : 24 ≤ length (call .how)) where
+  abbrev how : List ℕ
+  how = call .how
+
+  abbrev how′ : List ℕ
+  how′ = call′ .how
+
   -- a bit of the second call's resolve
   bit-added : (b : ℕ) (a : Bool) → has (2 ^ b) (addedBits added) ≡ a → has (2 ^ b) (resolveOf how′) ≡ has (2 ^ b) (resolveOf how) || a
   bit-added b a e = ap (has (2 ^ b)) (adds .bitsAdded long) ∙ has-or b (resolveOf how) (addedBits added) ∙ ap (λ (t : Bool). has (2 ^ b) (resolveOf how) || t) e
@@ -102,7 +108,7 @@ module _ (added : Restrictions) (h : Handle) (how : List ℕ) (h′ : Handle) (h
   in-root-kept = bit-added 4 false (bits-of added .4) ∙ or-false _
 
   -- the restrictions of the second call are those of the first and the added ones
-  all-set : (r : Restriction) → restrictions h′ how′ r ≡ restrictions h how r || added r
+  all-set : (r : Restriction) → restrictions call′ r ≡ restrictions call r || added r
   unfolding restrictions
   all-set mark = adds .markAdded
   all-set beneath = bit-added 3 (added beneath) (bits-of added .3)
@@ -140,49 +146,50 @@ module _ (added : Restrictions) (h : Handle) (how : List ℕ) (h′ : Handle) (h
 -- the handle's place decides whether it is refused
 handle-kept : (t : Tree) (h h′ : Handle) → placeOf h′ ≡ placeOf h → handleRefused t h′ ≡ handleRefused t h
 unfolding handleRefused
-handle-kept t h h′ e =
-    rw (ap (λ p. p .mount) e, ap (λ p. p .node) e)
+handle-kept t h h′ e = rw (ap (λ p. p .mount) e, ap (λ p. p .node) e)
 
-module _ (added : Restrictions) (image path : List ℕ) (h : Handle) (how : List ℕ) (h′ : Handle) (how′ : List ℕ)
-    (adds : Adds added h how h′ how′) (scope : 24 ≤ length how → added beneath ≡ true → has IN-ROOT (resolveOf how) ≡ false) where
-  how-same-by : (b : Bool) → ltb (length how) 24 ≡ b → howRefused how′ ≡ howRefused how
+module _ (added : Restrictions) (image : List ℕ) (call call′ : Call) (adds : Adds added call call′)
+    (scope : 24 ≤ length (call .how) → added beneath ≡ true → has IN-ROOT (resolveOf (call .how)) ≡ false) where
+  how-same-by : (b : Bool) → ltb (length (call .how)) 24 ≡ b → howRefused (call′ .how) ≡ howRefused (call .how)
   how-same-by true e = ap howRefused (adds .short (ltb-true _ _ e))
-  how-same-by false e = how-kept added h how h′ how′ adds (scope (ltb-false _ _ e)) (ltb-false _ _ e)
+  how-same-by false e = how-kept added call call′ adds (scope (ltb-false _ _ e)) (ltb-false _ _ e)
 
-  before-kept : refusedBefore image h′ path how′ ≡ refusedBefore image h path how
+  before-kept : refusedBefore image (call′ .handle) (call′ .path) (call′ .how) ≡ refusedBefore image (call .handle) (call .path) (call .how)
   unfolding refusedBefore
-  before-kept = rw (how-same-by (ltb (length how) 24) refl, handle-kept (treeOf image) h h′ (adds .samePlace))
+  before-kept =
+      rw (how-same-by (ltb (length (call .how)) 24) refl, adds .samePath, handle-kept (treeOf image) (call .handle) (call′ .handle) (adds .samePlace))
 
-  trace-kept : 24 ≤ length how → traceOf image h′ path how′ ≡ traceOf image h path how
+  trace-kept : 24 ≤ length (call .how) → traceOf image call′ ≡ traceOf image call
   unfolding traceOf requestOf
-  trace-kept l = rw (flags-kept added h how h′ how′ adds (scope l) l, in-root-kept added h how h′ how′ adds (scope l) l, adds .samePlace)
+  trace-kept l = rw (flags-kept added call call′ adds (scope l) l, in-root-kept added call call′ adds (scope l) l, adds .samePlace, adds .samePath)
 
-  only-stops : (o : Option Refusal) → refusedBefore image h path how ≡ o
-      → OnlyStops added image path h how h′ how′ (resolve image h path how) (resolve image h′ path how′)
+  only-stops : (o : Option Refusal) → refusedBefore image (call .handle) (call .path) (call .how) ≡ o
+      → OnlyStops added image call call′ (resolve image call) (resolve image call′)
   unfolding resolve eventsOf firstForbidden
   only-stops (some r) e = record {
     same = λ _. rw (before-kept, e);
     stopped = λ m p f. absurd (some-not-none (m, p) (sym (rw e at f)));
   }
   only-stops none e =
-      let l = how-long how (unrefused image h path how e .how-passes) in
-      let all = all-set added h how h′ how′ adds (scope l) l in
-      let t = traceOf image h path how in
+      let l = how-long (call .how) (unrefused image (call .handle) (call .path) (call .how) e .how-passes) in
+      let all = all-set added call call′ adds (scope l) l in
+      let R = restrictions call in
+      let now = restrictions call′ in
+      let t = traceOf image call in
       record {
-        same = λ f. rw (before-kept, e, trace-kept l) (trace.same (restrictions h how) added (restrictions h′ how′) all t (rw e at f));
-        stopped = λ m p f. rw (before-kept, e, trace-kept l) (trace.stopped (restrictions h how) added (restrictions h′ how′) all t m p (rw e at f));
+        same = λ f. rw (before-kept, e, trace-kept l) (trace.same R added now all t (rw e at f));
+        stopped = λ m p f. rw (before-kept, e, trace-kept l) (trace.stopped R added now all t m p (rw e at f));
       }
 
 pub demand-3 : Demand3
-demand-3 added image path h how h′ how′ a =
-    only-stops added image path h how h′ how′ (a .adds) (a .scope) (refusedBefore image h path how) refl
+demand-3 added image call call′ a =
+    only-stops added image call call′ (a .adds) (a .scope) (refusedBefore image (call .handle) (call .path) (call .how)) refl
 
 -- the same of answers that are known to be the two calls'
-pub only-stops-answers : (image path : List ℕ) (h : Handle) (how : List ℕ) (h′ : Handle) (how′ : List ℕ) {first second : Answer}
-    → first ≡ resolve image h path how → second ≡ resolve image h′ path how′
-    → (added : Restrictions) → Added added image h how h′ how′ → OnlyStops added image path h how h′ how′ first second
-only-stops-answers image path h how h′ how′ first-is second-is added a =
-    let only = demand-3 added image path h how h′ how′ a in
+pub only-stops-answers : (image : List ℕ) (call call′ : Call) {first second : Answer} → first ≡ resolve image call → second ≡ resolve image call′
+    → (added : Restrictions) → Added added image call call′ → OnlyStops added image call call′ first second
+only-stops-answers image call call′ first-is second-is added a =
+    let only = demand-3 added image call call′ a in
     record {
       same = λ f. second-is ∙ only .same f ∙ sym first-is;
       stopped = λ e p f. let s = only .stopped e p f in (s .0, s .1, second-is ∙ s .2);
@@ -193,16 +200,14 @@ found-not-refused r e p h = let z : _≡_ {A = ℕ} 0 1 = cc in omega arith
 
 -- "So a further restriction never turns one place into another.": a place found with restrictions added is found without them too,
 -- with the same counts
-pub never-elsewhere : (added : Restrictions) (image path : List ℕ) (h : Handle) (how : List ℕ) (h′ : Handle) (how′ : List ℕ)
-    → Added added image h how h′ how′
-    → (r : Reached) → resolve image h′ path how′ ≡ Found r → resolve image h path how ≡ Found r
-never-elsewhere added image path h how h′ how′ a r found =
-    go (firstForbidden added (eventsOf image h path how)) refl
+pub never-elsewhere : (added : Restrictions) (image : List ℕ) (call call′ : Call) → Added added image call call′
+    → (r : Reached) → resolve image call′ ≡ Found r → resolve image call ≡ Found r
+never-elsewhere added image call call′ a r found = go (firstForbidden added (eventsOf image call)) refl
   where
-    only : OnlyStops added image path h how h′ how′ (resolve image h path how) (resolve image h′ path how′)
-    only = demand-3 added image path h how h′ how′ a
+    only : OnlyStops added image call call′ (resolve image call) (resolve image call′)
+    only = demand-3 added image call call′ a
 
-    go : (o : Option Meeting) → firstForbidden added (eventsOf image h path how) ≡ o → resolve image h path how ≡ Found r
+    go : (o : Option Meeting) → firstForbidden added (eventsOf image call) ≡ o → resolve image call ≡ Found r
     go none e = sym (only .same e) ∙ found
     go (some (m, p)) e = let s = only .stopped m p e in absurd (found-not-refused r (s .0) p (sym found ∙ s .2))
 
@@ -216,15 +221,15 @@ resolve-set how y long byte small =
     (sym (or-low (field 7 how 17) (getD how 16 0) y byte small))
 
 -- setting the bits in the bytes of an open_how, and the mark in a handle, gives such a second call
-pub setting-adds : (added : Restrictions) (h : Handle) (how : List ℕ) → getD how 16 0 < 256
-    → Adds added h how (withMark added h) (withBits added how)
+pub setting-adds : (added : Restrictions) (call : Call) → getD (call .how) 16 0 < 256 → Adds added call (withAdded added call)
 unfolding withBits withMark
-setting-adds added h how byte = go (ltb (length how) 24) refl
+setting-adds added call byte = go (ltb (length (call .how)) 24) refl
   where
-    go : (b : Bool) → ltb (length how) 24 ≡ b → Adds added h how (withMark added h) (withBits added how)
+    go : (b : Bool) → ltb (length (call .how)) 24 ≡ b → Adds added call (withAdded added call)
     go true e = record {
       samePlace = refl;
       markAdded = refl;
+      samePath = refl;
       sameLength = rw e;
       alike = λ i outside. rw e;
       short = λ s. rw e;
@@ -233,8 +238,9 @@ setting-adds added h how byte = go (ltb (length how) 24) refl
     go false e = record {
       samePlace = refl;
       markAdded = refl;
-      sameLength = rw e (length-set how 16 _);
-      alike = λ i outside. rw e (getD-set-other how 16 i _ 0 (λ x. ⊎-elim (λ (l : i < 16). omega arith) (λ (l : 24 ≤ i). omega arith) outside));
+      samePath = refl;
+      sameLength = rw e (length-set (call .how) 16 _);
+      alike = λ i outside. rw e (getD-set-other (call .how) 16 i _ 0 (λ x. ⊎-elim (λ (l : i < 16). omega arith) (λ (l : 24 ≤ i). omega arith) outside));
       short = λ s. absurd (lt-irrefl 24 (lt-of-le-of-lt (ltb-false _ _ e) s));
-      bitsAdded = λ l. rw e (resolve-set how (addedBits added) l byte (let y = bits-of added in omega arith));
+      bitsAdded = λ l. rw e (resolve-set (call .how) (addedBits added) l byte (let y = bits-of added in omega arith));
     }

@@ -34,12 +34,12 @@ demanded (some m) now first = refusedBy (forbids now (m .0)) (m .1) first
 
 -- what is computed of two calls
 record Computed (c : TwoCalls) : Type 0 where
-  good : handleRefused (treeOf bench) (c .handle) ≡ none
-  adds : Adds (c .added) (c .handle) (c .how) (c .handle′) (c .how′)
-  scope : 24 ≤ length (c .how) → c .added beneath ≡ true → has IN-ROOT (resolveOf (c .how)) ≡ false
-  event : firstForbidden (c .added) (eventsOf bench (c .handle) (c .path) (c .how)) ≡ c .event
-  first : resolve bench (c .handle) (c .path) (c .how) ≡ c .first
-  second : demanded (c .event) (restrictions (c .handle′) (c .how′)) (c .first) ≡ c .second
+  good : handleRefused (treeOf bench) (c .call .handle) ≡ none
+  adds : Adds (c .added) (c .call) (c .call′)
+  scope : 24 ≤ length (c .call .how) → c .added beneath ≡ true → has IN-ROOT (resolveOf (c .call .how)) ≡ false
+  event : firstForbidden (c .added) (eventsOf bench (c .call)) ≡ c .event
+  first : resolve bench (c .call) ≡ c .first
+  second : demanded (c .event) (restrictions (c .call′)) (c .first) ≡ c .second
 
 record Rows : Type 0 where
   crosses : Computed crossing
@@ -62,24 +62,23 @@ unfolding field fieldBytes part has contains sameBytes before find firstFailing 
     digit hexBytes hex benchNodes benchMounts benchEntries bench openHow
     addedBits withBits withMark meetings eventsOf firstForbidden setOf
 rows = record {
-  crosses = record { good = refl; adds = setting-adds _ _ _ (lit< tt); scope = λ _ _. refl; event = refl; first = refl; second = refl };
-  escapes = record { good = refl; adds = setting-adds _ _ _ (lit< tt); scope = λ _ _. refl; event = refl; first = refl; second = refl };
-  jumps = record { good = refl; adds = setting-adds _ _ _ (lit< tt); scope = λ _ _. refl; event = refl; first = refl; second = refl };
-  refuses-twice = record { good = refl; adds = setting-adds _ _ _ (lit< tt); scope = λ _ _. refl; event = refl; first = refl; second = refl };
-  goes-unhindered = record { good = refl; adds = setting-adds _ _ _ (lit< tt); scope = λ _ _. refl; event = refl; first = refl; second = refl };
+  crosses = record { good = refl; adds = setting-adds _ _ (lit< tt); scope = λ _ _. refl; event = refl; first = refl; second = refl };
+  escapes = record { good = refl; adds = setting-adds _ _ (lit< tt); scope = λ _ _. refl; event = refl; first = refl; second = refl };
+  jumps = record { good = refl; adds = setting-adds _ _ (lit< tt); scope = λ _ _. refl; event = refl; first = refl; second = refl };
+  refuses-twice = record { good = refl; adds = setting-adds _ _ (lit< tt); scope = λ _ _. refl; event = refl; first = refl; second = refl };
+  goes-unhindered = record { good = refl; adds = setting-adds _ _ (lit< tt); scope = λ _ _. refl; event = refl; first = refl; second = refl };
 }
 
 module _ (c : TwoCalls) (k : Computed c) where
-  added : Added (c .added) bench (c .handle) (c .how) (c .handle′) (c .how′)
+  added : Added (c .added) bench (c .call) (c .call′)
   added = record { accepted = worked .bench-accepted; good = k .good; adds = k .adds; scope = k .scope }
 
-  only : OnlyStops (c .added) bench (c .path) (c .handle) (c .how) (c .handle′) (c .how′)
-      (resolve bench (c .handle) (c .path) (c .how)) (resolve bench (c .handle′) (c .path) (c .how′))
-  only = demand-3 (c .added) bench (c .path) (c .handle) (c .how) (c .handle′) (c .how′) added
+  only : OnlyStops (c .added) bench (c .call) (c .call′) (resolve bench (c .call)) (resolve bench (c .call′))
+  only = demand-3 (c .added) bench (c .call) (c .call′) added
 
-  by-demand-3 : (o : Option Meeting) → firstForbidden (c .added) (eventsOf bench (c .handle) (c .path) (c .how)) ≡ o
-      → demanded o (restrictions (c .handle′) (c .how′)) (c .first) ≡ c .second
-      → resolve bench (c .handle′) (c .path) (c .how′) ≡ c .second
+  by-demand-3 : (o : Option Meeting) → firstForbidden (c .added) (eventsOf bench (c .call)) ≡ o
+      → demanded o (restrictions (c .call′)) (c .first) ≡ c .second
+      → resolve bench (c .call′) ≡ c .second
   by-demand-3 none e d = only .same e ∙ k .first ∙ d
   by-demand-3 (some (m, p)) e d =
       let s = only .stopped m p e in

@@ -15,11 +15,10 @@ use Rattle.model.specs.OpenHow.{resolveOf, NO-XDEV, NO-MAGICLINKS, NO-SYMLINKS,
 use Rattle.model.specs.Answers.{refused}
 use Rattle.model.specs.Handles.{placeOf, handleRefused}
 use Rattle.model.specs.Trace.{Event, Restriction, mark, beneath, noXdev, noSymlinks, noMagiclinks, Restrictions, Trace, stop, meet, stand, forbids}
-use Rattle.model.specs.Resolve.{refusedBefore, restrictions, traceOf, resolve}
+use Rattle.model.specs.Resolve.{Call, callOf, refusedBefore, restrictions, traceOf, resolve}
 use Rattle.model.specs.declared.Progress.{Progress}
 use Rattle.model.specs.declared.Handle.{Handle}
 use Rattle.model.specs.declared.Errno.{Errno}
-use Rattle.model.specs.declared.Refusal.{Refusal}
 use Rattle.model.specs.declared.Answer.{Answer}
 use Rattle.model.specs.declared.Verdict.the-variants.{Accepted}
 
@@ -30,15 +29,16 @@ addedBits added =
     + cond (added beneath) BENEATH 0
 
 -- "the second has the added restrictions as bits of resolve or as the handle's mark, and all other input alike; an open_how under
--- 24 bytes has no resolve to add bits to and is the same in both": the first call's handle and open_how, then the second's
-pub record Adds (added : Restrictions) (h : Handle) (how : List ℕ) (h′ : Handle) (how′ : List ℕ) : Type 0 where
-  pub samePlace : placeOf h′ ≡ placeOf h
-  pub markAdded : h′ .mark ≡ h .mark || added mark
-  pub sameLength : length how′ ≡ length how
+-- 24 bytes has no resolve to add bits to and is the same in both": the first call, then the second
+pub record Adds (added : Restrictions) (call call′ : Call) : Type 0 where
+  pub samePlace : placeOf (call′ .handle) ≡ placeOf (call .handle)
+  pub markAdded : call′ .handle .mark ≡ call .handle .mark || added mark
+  pub samePath : call′ .path ≡ call .path
+  pub sameLength : length (call′ .how) ≡ length (call .how)
   -- outside the 8 bytes of resolve, which begin at byte 16
-  pub alike : (i : ℕ) → (i < 16) ⊎ (24 ≤ i) → getD how′ i 0 ≡ getD how i 0
-  pub short : length how < 24 → how′ ≡ how
-  pub bitsAdded : 24 ≤ length how → resolveOf how′ ≡ bitOr (resolveOf how) (addedBits added)
+  pub alike : (i : ℕ) → (i < 16) ⊎ (24 ≤ i) → getD (call′ .how) i 0 ≡ getD (call .how) i 0
+  pub short : length (call .how) < 24 → call′ .how ≡ call .how
+  pub bitsAdded : 24 ≤ length (call .how) → resolveOf (call′ .how) ≡ bitOr (resolveOf (call .how)) (addedBits added)
 
 -- a second call in bytes: the bits set in the first byte of resolve, and the mark
 unfoldable pub withBits : Restrictions → List ℕ → List ℕ
@@ -46,6 +46,9 @@ withBits added how = cond (ltb (length how) 24) how (set how 16 (bitOr (getD how
 
 unfoldable pub withMark : Restrictions → Handle → Handle
 withMark added h = record { mount = h .mount; node = h .node; mark = h .mark || added mark }
+
+abbrev pub withAdded : Restrictions → Call → Call
+withAdded added call = callOf (withMark added (call .handle)) (call .path) (withBits added (call .how))
 
 -- an event met, with the counts reached there
 abbrev pub Meeting : Type 0
@@ -64,9 +67,9 @@ meetings R (meet e p later) = onward (forbids R e) (e, p) (meetings R later)
 
 -- "The events are those that the walk above meets on the first call's input, in the order met; a call refused before the walk
 -- meets none."
-unfoldable pub eventsOf : List ℕ → Handle → List ℕ → List ℕ → List Meeting
-eventsOf image h path how =
-    ifNone (refusedBefore image h path how) (meetings (restrictions h how) (traceOf image h path how))
+unfoldable pub eventsOf : List ℕ → Call → List Meeting
+eventsOf image call =
+    ifNone (refusedBefore image (call .handle) (call .path) (call .how)) (meetings (restrictions call) (traceOf image call))
 
 -- "the first event of that walk that an added one forbids"
 unfoldable pub firstForbidden : Restrictions → List Meeting → Option Meeting
@@ -76,22 +79,21 @@ firstForbidden added (x ∷ xs) = cond (isSome (forbids added (x .0))) (some x) 
 -- Demand 3, of the answers of two calls: where the first meets no event that an added restriction forbids, "both answers are the
 -- same, place or error, counts included". Otherwise the second's answer "is then the error that document 01 gives this event under
 -- all restrictions now set, with the counts reached there".
-pub record OnlyStops (added : Restrictions) (image path : List ℕ) (h : Handle) (how : List ℕ) (h′ : Handle) (how′ : List ℕ) (first second : Answer) : Type 0 where
-  pub same : firstForbidden added (eventsOf image h path how) ≡ none → second ≡ first
-  pub stopped : (e : Event) (p : Progress) → firstForbidden added (eventsOf image h path how) ≡ some (e, p)
-      → (n : Errno) × (forbids (restrictions h′ how′) e ≡ some n) × (second ≡ refused n p)
+pub record OnlyStops (added : Restrictions) (image : List ℕ) (call call′ : Call) (first second : Answer) : Type 0 where
+  pub same : firstForbidden added (eventsOf image call) ≡ none → second ≡ first
+  pub stopped : (e : Event) (p : Progress) → firstForbidden added (eventsOf image call) ≡ some (e, p)
+      → (n : Errno) × (forbids (restrictions call′) e ≡ some n) × (second ≡ refused n p)
 
 -- "Take any accepted table, any good handle, any path and any open_how, whatever restrictions are already set and with IN_ROOT on
 -- or off. Add any of NO_XDEV, NO_MAGICLINKS, NO_SYMLINKS, the below mark and, with IN_ROOT off, BENEATH, and keep all else alike."
 -- "A handle is good if none of the handle checks would refuse it."
-pub record Added (added : Restrictions) (image : List ℕ) (h : Handle) (how : List ℕ) (h′ : Handle) (how′ : List ℕ) : Type 0 where
+pub record Added (added : Restrictions) (image : List ℕ) (call call′ : Call) : Type 0 where
   pub accepted : tableCheck image ≡ Accepted
-  pub good : handleRefused (treeOf image) h ≡ none
-  pub adds : Adds added h how h′ how′
-  pub scope : 24 ≤ length how → added beneath ≡ true → has IN-ROOT (resolveOf how) ≡ false
+  pub good : handleRefused (treeOf image) (call .handle) ≡ none
+  pub adds : Adds added call call′
+  pub scope : 24 ≤ length (call .how) → added beneath ≡ true → has IN-ROOT (resolveOf (call .how)) ≡ false
 
 abbrev pub Demand3 : Type 0
 Demand3 =
-    (added : Restrictions) (image path : List ℕ) (h : Handle) (how : List ℕ) (h′ : Handle) (how′ : List ℕ)
-    → Added added image h how h′ how′
-    → OnlyStops added image path h how h′ how′ (resolve image h path how) (resolve image h′ path how′)
+    (added : Restrictions) (image : List ℕ) (call call′ : Call) → Added added image call call′
+    → OnlyStops added image call call′ (resolve image call) (resolve image call′)

@@ -2,9 +2,8 @@
 use Prim.Native.Nat.{ℕ, _≤_}
 use mathlib.Core.List.{List}
 use Rattle.model.specs.Answers.{progressOf}
-use Rattle.model.specs.Resolve.{resolve}
+use Rattle.model.specs.Resolve.{Call, resolve}
 use Rattle.model.specs.declared.Progress.{Progress}
-use Rattle.model.specs.declared.Handle.{Handle}
 
 pub record Bounded (p : Progress) : Type 0 where
   pub few-links : p .links ≤ 40
@@ -12,4 +11,4 @@ pub record Bounded (p : Progress) : Type 0 where
 
 -- every walk, whatever the bytes
 abbrev pub EveryWalk : Type 0
-EveryWalk = (image : List ℕ) (h : Handle) (path how : List ℕ) → Bounded (progressOf (resolve image h path how))
+EveryWalk = (image : List ℕ) (call : Call) → Bounded (progressOf (resolve image call))

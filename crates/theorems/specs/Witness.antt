@@ -2,16 +2,14 @@
 use Prim.Native.Nat.{ℕ, _+_}
 use Prim.Native.String.{String}
 use mathlib.Core.Bool.{Bool, true, false}
-use mathlib.Core.List.{List}
 use mathlib.Core.Option.{Option, none, some}
 use mathlib.Core.Path.{_≡_}
 use Rattle.model.specs.Bytes.{has, ascii}
 use Rattle.model.specs.OpenHow.{NO-XDEV, NO-MAGICLINKS, NO-SYMLINKS, BENEATH}
 use Rattle.model.specs.Trace.{Escape, Cross, Jump, mark, beneath, noXdev, noSymlinks, noMagiclinks, Restrictions}
-use Rattle.model.specs.Resolve.{resolve}
-use Rattle.model.specs.BenchTree.{bench, openHow, handleAt, at, error}
+use Rattle.model.specs.Resolve.{Call, resolve}
+use Rattle.model.specs.BenchTree.{bench, callAt, at, error}
 use Rattle.model.specs.declared.Progress.{Progress}
-use Rattle.model.specs.declared.Handle.{Handle}
 use Rattle.model.specs.declared.Errno.the-variants.{Enoent, Exdev}
 use Rattle.model.specs.declared.Answer.{Answer}
 use Rattle.theorems.specs.Adding.{Added, Meeting, eventsOf, firstForbidden}
@@ -19,11 +17,8 @@ use Rattle.theorems.specs.Adding.{Added, Meeting, eventsOf, firstForbidd
 -- two calls, the first event of the first one's walk that an added restriction forbids, and both answers
 pub record TwoCalls : Type 0 where
   pub added : Restrictions
-  pub path : List ℕ
-  pub handle : Handle
-  pub how : List ℕ
-  pub handle′ : Handle
-  pub how′ : List ℕ
+  pub call : Call
+  pub call′ : Call
   pub event : Option Meeting
   pub first : Answer
   pub second : Answer
@@ -40,11 +35,8 @@ setOf marked bits noMagiclinks = has NO-MAGICLINKS bits
 abbrev pub adding : ℕ → Bool → ℕ → String → Option Meeting → Answer → Answer → TwoCalls
 adding already marked bits path event first second = record {
   added = setOf marked bits;
-  path = ascii path;
-  handle = handleAt 0 1 false;
-  how = openHow 0 already;
-  handle′ = handleAt 0 1 marked;
-  how′ = openHow 0 (already + bits);
+  call = callAt 0 1 false (ascii path) 0 already;
+  call′ = callAt 0 1 marked (ascii path) 0 (already + bits);
   event = event;
   first = first;
   second = second;
@@ -73,10 +65,10 @@ unhindered = adding 0 true NO-XDEV "cal/tare" none (at 0 3 2 0) (at 0 3 2 0)
 
 -- demand 3 speaks of the two calls, and what it says of them
 pub record Applied (c : TwoCalls) : Type 0 where
-  pub premises : Added (c .added) bench (c .handle) (c .how) (c .handle′) (c .how′)
-  pub firstForbiddenEvent : firstForbidden (c .added) (eventsOf bench (c .handle) (c .path) (c .how)) ≡ c .event
-  pub firstAnswer : resolve bench (c .handle) (c .path) (c .how) ≡ c .first
-  pub secondAnswer : resolve bench (c .handle′) (c .path) (c .how′) ≡ c .second
+  pub premises : Added (c .added) bench (c .call) (c .call′)
+  pub firstForbiddenEvent : firstForbidden (c .added) (eventsOf bench (c .call)) ≡ c .event
+  pub firstAnswer : resolve bench (c .call) ≡ c .first
+  pub secondAnswer : resolve bench (c .call′) ≡ c .second
 
 pub record Witnessed : Type 0 where
   pub crossing-applied : Applied crossing

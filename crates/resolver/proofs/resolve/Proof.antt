@@ -33,7 +33,7 @@ returns-2 c =
     let check = c .before .before .before .check in
     let enum-told2 = c .before .enum-told2 in
     let e = c .refuse .ensures ∙ broken-call (now (args .image)) (args .h) (now (args .path)) (now (args .how)) _ _ (sym (check .ensures .0) ∙ enum-told2 .given .1) in
-    (e, subst (λ a. Bounded (progressOf a)) (sym e) (every-walk-bounded _ _ _ _), refl, refl, refl)
+    (e, subst (λ a. Bounded (progressOf a)) (sym e) (every-walk-bounded _ _), refl, refl, refl)
 
 pub resolve-spec : {M : Type 1} → statement M
 resolve-spec =

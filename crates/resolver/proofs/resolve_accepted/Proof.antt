@@ -6,7 +6,7 @@ use denote.Ref.{now}
 use Rattle.model.specs.Answers.{progressOf}
 use Rattle.theorems.specs.Bounded.{Bounded}
 use Rattle.theorems.proofs.Bounds.{every-walk-bounded}
-use Rattle.model.specs.Resolve.{refusedBefore}
+use Rattle.model.specs.Resolve.{callOf, refusedBefore}
 use Rattle.laws.proofs.Acceptance.{accepted-sized}
 use Rattle.image.specs.Counts.{Counted}
 use Rattle.open_how.specs.Checks.{fieldsOf}
@@ -91,7 +91,7 @@ returns c =
     let r = read-counts .ensures in
     let b = walks-none (refusedBefore s h path how) (fieldsOf how) (read .given .0 .0) (sym (accepted-call s h path how (pre)) ∙ sym (check-call .ensures) ∙ read .given .1) in
     let e = c .walk-path .ensures ∙ walked s h path how (read .given .0 .0) (ends-in-slash .result) (ask .result) (needs-directory .result) (b .0) (b .1) (ends-in-slash .ensures) (ask .ensures) (needs-directory .ensures) in
-    (e, subst (λ a. Bounded (progressOf a)) (sym e) (every-walk-bounded s h path how), refl, refl, refl)
+    (e, subst (λ a. Bounded (progressOf a)) (sym e) (every-walk-bounded s (callOf h path how)), refl, refl, refl)
 
 returns-2 : tie.Need-returns-2
 returns-2 c =
@@ -106,7 +106,7 @@ returns-2 c =
     let h = args .h in
     let r = read-counts .ensures in
     let e = refused-call s h path how (read2 .given .0 .0) (refused-some (refusedBefore s h path how) (fieldsOf how) (read2 .given .0 .0) (sym (accepted-call s h path how (pre)) ∙ sym (check-call .ensures) ∙ read2 .given .1)) in
-    (e, subst (λ a. Bounded (progressOf a)) (sym e) (every-walk-bounded s h path how), refl, refl, refl)
+    (e, subst (λ a. Bounded (progressOf a)) (sym e) (every-walk-bounded s (callOf h path how)), refl, refl, refl)
 
 pub resolve-accepted-spec : {M : Type 1} → statement M
 resolve-accepted-spec =

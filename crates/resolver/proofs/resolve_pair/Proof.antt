@@ -17,7 +17,7 @@ returns c =
       record {
         firstAnswer = resolve .ensures .0;
         secondAnswer = c .resolve2 .ensures .0;
-        onlyStops = only-stops-answers _ _ _ _ _ _ (resolve .ensures .0) (c .resolve2 .ensures .0);
+        onlyStops = only-stops-answers _ _ _ (resolve .ensures .0) (c .resolve2 .ensures .0);
       },
       refl,
       refl,

@@ -5,7 +5,7 @@ use mathlib.Core.Path.{ap, _∙_, refl}
 use lib.ListN.{drop}
 use denote.Ref.{now}
 use Rattle.model.specs.Answers.{answerNumbers}
-use Rattle.model.specs.Resolve.{resolve}
+use Rattle.model.specs.Resolve.{callOf, resolve}
 use Rattle.ventolaire.specs.Written.{handleOf}
 use Rattle.ventolaire.proofs.OutLaws.{answer-writes, answer-short}
 use Rattle.ventolaire.proofs.ventolaire_resolve.Statement.{statement}
@@ -14,7 +14,7 @@ use Rattle.ventolaire.proofs.ventolaire_resolve.Tie as tie
 returns : tie.Need-returns
 returns c =
     let x = c .before .before .before .before .before .args in
-    let a = resolve (now (x .image)) (handleOf (x .mount) (x .node) (x .mark)) (now (x .path)) (now (x .how)) in
+    let a = resolve (now (x .image)) (callOf (handleOf (x .mount) (x .node) (x .mark)) (now (x .path)) (now (x .how))) in
     (answer-short a (now (x .out)) (c .if1 .taken), refl, refl, refl)
 
 resolve-requires : tie.Need-resolve-requires
@@ -32,7 +32,7 @@ returns-2 c =
     let if1 = c .before .before .before .before .before .if1 in
     let resolve′ = c .before .before .before .resolve in
     let put-answer = c .before .before .put-answer in
-    let a = resolve (now (args .image)) (handleOf (args .mount) (args .node) (args .mark)) (now (args .path)) (now (args .how)) in
+    let a = resolve (now (args .image)) (callOf (handleOf (args .mount) (args .node) (args .mark)) (now (args .path)) (now (args .how))) in
     let answered = ap (λ y. answerNumbers y ++ drop 6 (now (args .out))) (resolve′ .ensures .0) in
     (answer-writes a (now (args .out)) (put-answer .last .0) (if1 .left) (put-answer .ensures ∙ answered), refl, refl, refl)
 
