@@ -13,8 +13,8 @@ use reader::at_end;
 use reader::next_component;
 use state::finish;
 use state::followed_to;
-use state::refuse;
 use state::standing_on;
+use state::stop;
 use state::taken;
 use text::ends_in_slash;
 use text::name_of;
@@ -254,7 +254,7 @@ pub fn run<'a>(
                 return finish(image, c, k, end);
             }
             Next::Failed(errno, end) => {
-                return refuse(errno, end.progress);
+                return stop(errno, end.progress);
             }
         }
     }
