@@ -26,7 +26,7 @@ ghost use lib.Dec.{eqb};
 ghost use Prim.Native.Nat.{ℕ, _≤_, _<_};
 ghost use Rattle.component.specs.Walking.{Walking};
 ghost use Rattle.image.specs.Counts.{Counted};
-ghost use Rattle.walk.specs.Open.{rest, Resting, Ready, Advanced, Behind, Proceeded, Entered, Stepped};
+ghost use Rattle.walk.specs.OpenTexts.{rest, Resting, Ready, Advanced, Behind, Proceeded, Entered, Stepped};
 
 // A walk between two components: its state, the text that it reads and where in it, and how many texts are suspended behind that.
 pub struct Walk {

@@ -6,7 +6,7 @@ use mathlib.Core.Path.{_≡_, refl, sym, _∙_, subst}
 use native.Mathlib.Omega.{arith}
 use lib.ListN.{length}
 use denote.Ref.{now}
-use Rattle.walk.specs.Open.{rest, Ready}
+use Rattle.walk.specs.OpenTexts.{rest, Ready}
 use Rattle.walk.proofs.RunLaws.{goes-further, further-ready, further-same, ended-inside, ended-same, failed-same}
 use Rattle.walk.proofs.run.Statement.{statement}
 use Rattle.walk.proofs.run.Tie as tie
