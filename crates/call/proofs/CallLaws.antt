@@ -7,7 +7,7 @@ use Rattle.model.specs.TableCheck.{tableCheck}
 use Rattle.model.specs.Resolve.{refusedTable, refusedBefore}
 use Rattle.model.specs.declared.Handle.{Handle}
 use Rattle.model.specs.declared.Verdict.the-variants.{Accepted}
-use Rattle.open_how.specs.Checks.{fieldsOf}
+use Rattle.open_how.specs.Fields.{fieldsOf}
 use Rattle.call.specs.Calls.{refusedAfterTable, walksUnless, callRead}
 
 module _ (image : List ℕ) (h : Handle) (path how : List ℕ) where

@@ -9,7 +9,7 @@ use Rattle.model.specs.Path.{pathRefused}
 use Rattle.model.specs.Handles.{handleRefused}
 use Rattle.model.specs.declared.Handle.{Handle}
 use Rattle.model.specs.declared.Refusal.{Refusal}
-use Rattle.open_how.specs.Checks.{fieldsOf}
+use Rattle.open_how.specs.Fields.{fieldsOf}
 use Rattle.open_how.specs.declared.How.{How}
 use Rattle.call.specs.declared.CallRead.{CallRead}
 use Rattle.call.specs.declared.CallRead.the-variants.{Walks, Refused as CallRefused}

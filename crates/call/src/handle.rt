@@ -1,9 +1,9 @@
 // The checks of the directory handle, whose numbers may be any.
+use checks::Check;
+use checks::refuse;
 use image::records::mount_root;
 use model::Errno;
 use model::Handle;
-use open_how::Check;
-use open_how::refuse;
 use parts::records::Counts;
 use parts::search::Search;
 use tree::find_mount;
@@ -15,7 +15,7 @@ ghost use Rattle.model.specs.Handles.{handleRefused};
 ghost use Rattle.model.specs.TableCheck.{tableCheck};
 ghost use Rattle.model.specs.declared.Verdict.the-variants.{Accepted};
 ghost use Rattle.image.specs.Counts.{Counted};
-ghost use Rattle.open_how.specs.Checks.{checkOf};
+ghost use Rattle.checks.specs.Checks.{checkOf};
 
 // In this order: number out of range, not a directory, not under the mount's root or covered.
 pub fn check_handle(image: &[u8], c: Counts, h: Handle) -> Check

@@ -4,9 +4,9 @@ pub mod path;
 
 use crate::handle::check_handle;
 use crate::path::check_path;
+use checks::Check;
 use model::Handle;
 use model::Refusal;
-use open_how::Check;
 use open_how::How;
 use open_how::HowRead;
 use open_how::read_how;

@@ -1,11 +1,11 @@
 // The checks of the given path.
+use checks::Check;
+use checks::refuse;
 use model::Errno;
-use open_how::Check;
-use open_how::refuse;
 use strings::holds_byte;
 ghost use mathlib.Core.Path.{_≡_};
 ghost use Rattle.model.specs.Path.{pathRefused};
-ghost use Rattle.open_how.specs.Checks.{checkOf};
+ghost use Rattle.checks.specs.Checks.{checkOf};
 
 // In this order: too long, empty, zero byte.
 pub fn check_path(path: &[u8]) -> Check

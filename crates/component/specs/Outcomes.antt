@@ -3,6 +3,7 @@ use Prim.Native.Nat.{ℕ}
 use mathlib.Core.Bool.{Bool, cond}
 use mathlib.Core.List.{List}
 use mathlib.Core.Option.{Option, none, some}
+use mathlib.Core.Path.{_≡_}
 use lib.Dec.{ltb}
 use Rattle.model.specs.Bytes.{has, sameBytes, ascii}
 use Rattle.model.specs.Tree.{treeOf}
@@ -45,6 +46,10 @@ stopOr (some e) o = Stop e
 -- a move under restrictions
 abbrev pub moveOutcome : Restrictions → Move → Outcome
 moveOutcome R m = stopOr (forbidAny R (m .events)) (Go (m .place))
+
+-- the same under the bits of resolve, with the mark and without: Cross is the one event of such a move, and no mark forbids it
+abbrev pub MovesUnder : ℕ → Move → Outcome → Type 0
+MovesUnder bits m r = (mark : Bool) → r ≡ moveOutcome (restrictionsBy mark bits) m
 
 abbrev pub landingOutcome : Landing → Outcome
 landingOutcome outside = Stop Exdev

@@ -53,7 +53,7 @@ fn step_to(image: &[u8], c: Counts, k: Ask, last: bool, links: usize, p: Place, 
     };
     let kind = node_kind(image, n);
     match kind {
-        1 => enter(image, c, k.mark, k.resolve, there),
+        1 => enter(image, c, k.resolve, there),
         2 => Outcome::Go(there),
         3 => symbolic_to(image, c, k, last, links, p, n),
         4 => magic_to(image, c, k, last, links, p, n),

@@ -19,7 +19,7 @@ ghost use Prim.Native.Nat.{ℕ, _<_};
 ghost use Rattle.model.specs.Tree.{treeOf, isDirectory};
 ghost use Rattle.model.specs.Walk.{samePlace, rootOf, enter, toParent, climb, goUp};
 ghost use Rattle.laws.specs.Inside.{Inside};
-ghost use Rattle.component.specs.Outcomes.{requestFor, restrictionsFor, restrictionsBy, moveOutcome, upFrom};
+ghost use Rattle.component.specs.Outcomes.{requestFor, restrictionsFor, moveOutcome, MovesUnder, upFrom};
 ghost use Rattle.component.specs.Walking.{Reading, Walking};
 
 fn same_place(p: Place, q: Place) -> bool
@@ -32,9 +32,9 @@ fn same_place(p: Place, q: Place) -> bool
 }
 
 // Enters the mount that covers a place, if there is one.
-pub fn enter(image: &[u8], c: Counts, mark: bool, resolve: u64, p: Place) -> Outcome
+pub fn enter(image: &[u8], c: Counts, resolve: u64, p: Place) -> Outcome
     requires { ⌜ Reading (now image) c × Inside (treeOf (now image)) p ⌝ }
-    ensures { λ r. ⌜ r ≡ moveOutcome (restrictionsBy mark resolve) (enter (treeOf (now (image .entry))) p) ⌝ }
+    ensures { λ r. ⌜ MovesUnder resolve (enter (treeOf (now (image .entry))) p) r ⌝ }
 {
     let found = find_mount(image, c, p.mount, p.node);
     match found {
@@ -52,15 +52,14 @@ pub fn enter(image: &[u8], c: Counts, mark: bool, resolve: u64, p: Place) -> Out
     }
 }
 
-fn to_parent(image: &[u8], c: Counts, mark: bool, resolve: u64, p: Place) -> Outcome
+fn to_parent(image: &[u8], c: Counts, resolve: u64, p: Place) -> Outcome
     requires { ⌜ Reading (now image) c × (p .mount < treeOf (now image) .mounts) × (isDirectory (treeOf (now image)) (p .node) ≡ true) ⌝ }
-    ensures { λ r. ⌜ r ≡ moveOutcome (restrictionsBy mark resolve) (toParent (treeOf (now (image .entry))) p) ⌝ }
+    ensures { λ r. ⌜ MovesUnder resolve (toParent (treeOf (now (image .entry))) p) r ⌝ }
 {
     let parent = node_parent(image, p.node);
     enter(
         image,
         c,
-        mark,
         resolve,
         Place {
             mount: p.mount,
@@ -70,12 +69,12 @@ fn to_parent(image: &[u8], c: Counts, mark: bool, resolve: u64, p: Place) -> Out
 }
 
 // At a mount's root the climb to its point comes first.
-fn climb(image: &[u8], c: Counts, mark: bool, resolve: u64, p: Place) -> Outcome
+fn climb(image: &[u8], c: Counts, resolve: u64, p: Place) -> Outcome
     requires { ⌜ Reading (now image) c × (p .mount < treeOf (now image) .mounts) × (isDirectory (treeOf (now image)) (p .node) ≡ true) ⌝ }
-    ensures { λ r. ⌜ r ≡ moveOutcome (restrictionsBy mark resolve) (climb (treeOf (now (image .entry))) p) ⌝ }
+    ensures { λ r. ⌜ MovesUnder resolve (climb (treeOf (now (image .entry))) p) r ⌝ }
 {
     if p.node != mount_root(image, c, p.mount) {
-        return to_parent(image, c, mark, resolve, p);
+        return to_parent(image, c, resolve, p);
     }
     if has(resolve, NO_XDEV) {
         return Outcome::Stop(Errno::Exdev);
@@ -85,7 +84,6 @@ fn climb(image: &[u8], c: Counts, mark: bool, resolve: u64, p: Place) -> Outcome
     to_parent(
         image,
         c,
-        mark,
         resolve,
         Place {
             mount: parent,
@@ -113,7 +111,7 @@ fn up_from(image: &[u8], c: Counts, k: Ask, p: Place) -> Outcome
     ) {
         return Outcome::Go(p);
     }
-    climb(image, c, k.mark, k.resolve, p)
+    climb(image, c, k.resolve, p)
 }
 
 // "..", with Escape at the handle's place.

@@ -1,4 +1,4 @@
--- Laws of checks: which refusal an answer of the code stands for, and how checks in a row come to one. Assumes nothing.
+-- Laws of an open_how's checks: which refusal their answer stands for, and how checks in a row come to one. Assumes nothing.
 use Prim.Native.Nat.{ℕ}
 use mathlib.Core.Bool.{Bool, true, false}
 use mathlib.Core.Option.{Option, none, some}
@@ -9,25 +9,16 @@ use Rattle.model.specs.Answers.{refuseIf}
 use Rattle.model.specs.OpenHow.{refuseUnknown}
 use Rattle.model.specs.declared.Errno.{Errno}
 use Rattle.model.specs.declared.Refusal.{Refusal}
-use Rattle.open_how.specs.Checks.{checkOf, fieldsUnless}
-use Rattle.open_how.specs.declared.Check.the-variants.{Passes, Refused}
+use Rattle.open_how.specs.Fields.{fieldsUnless}
 use Rattle.open_how.specs.declared.How.{How}
-use Rattle.open_how.specs.declared.HowRead.the-variants.{Fields, Refused as HowRefused}
+use Rattle.open_how.specs.declared.HowRead.the-variants.{Fields, Refused}
 
--- a check's answer tells the refusal that it stands for
-pub passed : (o : Option Refusal) → checkOf o ≡ Passes → o ≡ none
-passed none e = refl
-passed (some r) e = let z : _≡_ {A = ℕ} 0 1 = cc in absurd (omega arith)
-
-pub stopped : (o : Option Refusal) (r : Refusal) → checkOf o ≡ Refused r → o ≡ some r
-stopped none r e = let z : _≡_ {A = ℕ} 0 1 = cc in absurd (omega arith)
-stopped (some q) r e = cc
-
+-- what is read of an open_how tells the refusal that it stands for
 pub how-passed : (o : Option Refusal) (f g : How) → fieldsUnless o f ≡ Fields g → (o ≡ none) × (g ≡ f)
 how-passed none f g e = (refl, cc)
 how-passed (some r) f g e = let z : _≡_ {A = ℕ} 0 1 = cc in absurd (omega arith)
 
-pub how-stopped : (o : Option Refusal) (f : How) (r : Refusal) → fieldsUnless o f ≡ HowRefused r → o ≡ some r
+pub how-stopped : (o : Option Refusal) (f : How) (r : Refusal) → fieldsUnless o f ≡ Refused r → o ≡ some r
 how-stopped none f r e = let z : _≡_ {A = ℕ} 0 1 = cc in absurd (omega arith)
 how-stopped (some q) f r e = cc
 

@@ -15,7 +15,7 @@ use Rattle.model.specs.declared.Refusal.{Refusal}
 use Rattle.model.specs.declared.Errno.the-variants.{Einval, E2big}
 use Rattle.laws.proofs.ByteLaws.{field-split}
 use Rattle.laws.proofs.Refusals.{passes}
-use Rattle.open_how.specs.Checks.{lengthRefused, fieldsOf}
+use Rattle.open_how.specs.Fields.{lengthRefused, fieldsOf}
 use Rattle.open_how.proofs.CheckLaws.{refuse-then, unknown-then}
 
 -- mode and padding, read as one number

@@ -1,4 +1,6 @@
 // The checks of open_how: u64 flags, u16 mode, 6 padding bytes, u64 resolve.
+use checks::Check;
+use checks::refuse;
 use fields::u64_at;
 use model::Errno;
 use model::Progress;
@@ -9,10 +11,11 @@ ghost use mathlib.Core.Path.{_≡_};
 ghost use Prim.Native.Nat.{_≤_, _<_};
 ghost use lib.ListN.{length};
 ghost use Rattle.model.specs.Bytes.{has};
-ghost use Rattle.model.specs.Answers.{refusal, notWalked, refuseIf};
+ghost use Rattle.model.specs.Answers.{refuseIf};
 ghost use Rattle.model.specs.OpenHow.{unknownBit, refuseUnknown, tailSet, modeSet, BENEATH, IN-ROOT};
 ghost use Rattle.model.specs.declared.Errno.the-variants.{Einval};
-ghost use Rattle.open_how.specs.Checks.{checkOf, lengthRefused, readHow};
+ghost use Rattle.checks.specs.Checks.{checkOf};
+ghost use Rattle.open_how.specs.Fields.{lengthRefused, readHow};
 
 pub const O_DIRECTORY: u64 = 0x10000;
 
@@ -45,12 +48,6 @@ pub fn has(x: u64, bit: u64) -> bool
     x / bit % 2 == 1
 }
 
-// One check's answer.
-pub enum Check {
-    Passes,
-    Refused(Refusal),
-}
-
 // The fields that a walk goes by: mode is 0 where it walks.
 pub struct How {
     pub flags: u64,
@@ -61,20 +58,6 @@ pub struct How {
 pub enum HowRead {
     Fields(How),
     Refused(Refusal),
-}
-
-// Both counts are 0 before the walk, and the detail is 255 except for unknown bits.
-pub fn refuse(errno: Errno) -> Check
-    ensures { λ r. ⌜ r ≡ Check.Refused (refusal errno notWalked) ⌝ }
-{
-    Check::Refused(Refusal {
-        errno,
-        detail: 255,
-        progress: Progress {
-            components: 0,
-            links: 0,
-        },
-    })
 }
 
 // Whether a byte after the 24th is not zero. No early exit: the loop is then compiled to vector code.

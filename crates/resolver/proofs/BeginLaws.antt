@@ -23,7 +23,7 @@ use Rattle.text.proofs.Components.{left-start, left-end, start-stands}
 use Rattle.text.proofs.Texts.{text-path, path-readable}
 use Rattle.component.specs.Outcomes.{requestFor, restrictionsFor}
 use Rattle.component.specs.declared.Ask.{Ask}
-use Rattle.walk.specs.Open.{leftIn, suspended, pending, rest, Ready}
+use Rattle.walk.specs.OpenTexts.{leftIn, suspended, pending, rest, Ready}
 use Rattle.walk.specs.declared.Walk.{Walk}
 
 abbrev pub atStart : Place → Bool → State

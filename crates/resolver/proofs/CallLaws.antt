@@ -29,7 +29,7 @@ use Rattle.model.specs.Resolve.{callOf, refusedBefore, restrictions, requestOf,
 use Rattle.model.specs.declared.Handle.{Handle}
 use Rattle.model.specs.declared.Refusal.{Refusal}
 use Rattle.model.specs.declared.Answer.the-variants.{Refused}
-use Rattle.open_how.specs.Checks.{fieldsOf}
+use Rattle.open_how.specs.Fields.{fieldsOf}
 use Rattle.call.specs.Calls.{walksUnless}
 use Rattle.open_how.specs.declared.How.{How}
 use Rattle.call.specs.declared.CallRead.the-variants.{Walks, Refused as CallRefused}

@@ -20,7 +20,7 @@ use open_how::O_PATH;
 use open_how::has;
 use parts::records::Counts;
 use state::finish;
-use state::refuse;
+use state::stop;
 use table::check;
 use text::ends_in_slash;
 use text::is_absolute;
@@ -96,10 +96,10 @@ fn walk_path<'a>(image: &'a [u8], c: Counts, k: Ask, path: &'a [u8], directory: 
         links: 0,
     };
     if k.mark {
-        return refuse(Errno::Enoent, none);
+        return stop(Errno::Enoent, none);
     }
     if has(k.resolve, BENEATH) {
-        return refuse(Errno::Exdev, none);
+        return stop(Errno::Exdev, none);
     }
     let root = k.root;
     begin(image, c, k, path, directory, root)
@@ -189,7 +189,7 @@ pub fn resolve<'a>(image: &'a [u8], h: Handle, path: &'a [u8], how: &[u8]) -> An
     let verdict = check(image);
     match verdict {
         Verdict::Accepted => resolve_accepted(image, h, path, how),
-        Verdict::Broken { rule: _, record: _ } => refuse(
+        Verdict::Broken { rule: _, record: _ } => stop(
             Errno::Euclean,
             Progress {
                 components: 0,

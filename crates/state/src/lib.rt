@@ -1,4 +1,4 @@
-// What becomes of a walk's state: a component taken, a place stood on, a link followed, a refusal, and the end.
+// What becomes of a walk's state: a component taken, a place stood on, a link followed, an error, and the end.
 use component::Ask;
 use image::records::node_kind;
 use model::Answer;
@@ -19,7 +19,8 @@ ghost use Rattle.laws.specs.Inside.{Inside};
 ghost use Rattle.component.specs.Outcomes.{requestFor};
 ghost use Rattle.component.specs.Walking.{Walking};
 
-pub fn refuse(errno: Errno, progress: Progress) -> Answer
+// An error that stops the walk, with the counts that it stands at; no such error has a detail.
+pub fn stop(errno: Errno, progress: Progress) -> Answer
     ensures { λ r. ⌜ r ≡ refused errno progress ⌝ }
 {
     Answer::Refused(Refusal {
@@ -42,22 +43,22 @@ pub fn finish(image: &[u8], c: Counts, k: Ask, s: State) -> Answer
         1 => Answer::Found(Reached { place, progress }),
         2 => {
             if s.directory {
-                return refuse(Errno::Enotdir, progress);
+                return stop(Errno::Enotdir, progress);
             }
             Answer::Found(Reached { place, progress })
         }
         3 | 4 => {
             if s.directory {
-                return refuse(Errno::Enotdir, progress);
+                return stop(Errno::Enotdir, progress);
             }
             if k.opath {
                 return Answer::Found(Reached { place, progress });
             }
-            refuse(Errno::Eloop, progress)
+            stop(Errno::Eloop, progress)
         }
         _ => {
             if s.directory {
-                return refuse(Errno::Enotdir, progress);
+                return stop(Errno::Enotdir, progress);
             }
             Answer::Found(Reached { place, progress })
         }

@@ -1,6 +1,6 @@
 mod WalkLaws
 mod PendingLaws
-mod OpenLaws
+mod OutcomeLaws
 mod StepLaws
 mod RunLaws
 pub mod UniqueLaws

@@ -19,7 +19,7 @@ use Rattle.model.specs.declared.State.{State}
 use Rattle.theorems.proofs.Steps.{on-with-more, on-with-done}
 use Rattle.text.specs.Texts.{textOf}
 use Rattle.text.proofs.Components.{left-empty, left-end}
-use Rattle.walk.specs.Open.{leftIn, suspended, pending, linksLeft, Placed, Suspended, Resting, Standing, Leads, Advanced, Entered}
+use Rattle.walk.specs.OpenTexts.{leftIn, suspended, pending, linksLeft, Placed, Suspended, Resting, Standing, Leads, Advanced, Entered}
 use Rattle.walk.specs.declared.Walk.{Walk}
 use Rattle.walk.specs.declared.Next.{Next}
 use Rattle.walk.specs.declared.Next.the-variants.{More, Done}

@@ -18,7 +18,7 @@ use Rattle.component.specs.Outcomes.{requestFor, restrictionsFor}
 use Rattle.component.specs.Walking.{Walking}
 use Rattle.component.specs.declared.Ask.{Ask}
 use Rattle.parts.specs.declared.records.Counts.{Counts}
-use Rattle.walk.specs.Open.{configuration, standsFor, Ready, rest, Held, Stepped}
+use Rattle.walk.specs.OpenTexts.{configuration, standsFor, Ready, rest, Held, Stepped}
 use Rattle.walk.specs.declared.Walk.{Walk}
 use Rattle.walk.specs.declared.Next.{Next}
 use Rattle.walk.specs.declared.Next.the-variants.{More, Done, Failed}

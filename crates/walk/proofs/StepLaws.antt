@@ -29,7 +29,7 @@ use Rattle.component.specs.declared.Ask.{Ask}
 use Rattle.component.specs.declared.Outcome.{Outcome}
 use Rattle.component.specs.declared.Outcome.the-variants.{Go}
 use Rattle.parts.specs.declared.records.Counts.{Counts}
-use Rattle.walk.specs.Open.{suspended, pending, linksLeft, configuration, Resting, Ready, Leads, OutcomeInside, proceed, Behind, Stepped}
+use Rattle.walk.specs.OpenTexts.{suspended, pending, linksLeft, configuration, Resting, Ready, Leads, OutcomeInside, proceed, Behind, Stepped}
 use Rattle.walk.specs.declared.Walk.{Walk}
 use Rattle.walk.specs.declared.Next.{Next}
 use Rattle.walk.proofs.WalkLaws.{step-off, step-on}

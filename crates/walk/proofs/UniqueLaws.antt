@@ -16,7 +16,7 @@ use Rattle.model.specs.Walk.{isEmpty}
 use Rattle.text.specs.Positions.{componentAt, left}
 use Rattle.text.specs.Texts.{textOf}
 use Rattle.text.proofs.Components.{left-here}
-use Rattle.walk.specs.Open.{leftIn, suspended, pending, configuration, standsFor, Placed, Suspended, Standing, Leads}
+use Rattle.walk.specs.OpenTexts.{leftIn, suspended, pending, configuration, standsFor, Placed, Suspended, Standing, Leads}
 use Rattle.walk.proofs.PendingLaws.{suspended-empty}
 use Rattle.walk.specs.declared.Walk.{Walk}
 use Rattle.walk.specs.declared.Next.{Next}

@@ -17,7 +17,7 @@ use Rattle.model.specs.declared.Errno.the-variants.{Enotdir}
 use Rattle.component.specs.Outcomes.{stopOr, landingOutcome, outcome}
 use Rattle.component.specs.declared.Outcome.{Outcome}
 use Rattle.component.specs.declared.Outcome.the-variants.{Go}
-use Rattle.walk.specs.Open.{afterOutcome}
+use Rattle.walk.specs.OpenTexts.{afterOutcome}
 
 module _ (R : Restrictions) (a : Request) where
   -- what follows the events, by the first forbidden one

@@ -13,8 +13,8 @@ use reader::at_end;
 use reader::next_component;
 use state::finish;
 use state::followed_to;
-use state::refuse;
 use state::standing_on;
+use state::stop;
 use state::taken;
 use text::ends_in_slash;
 use text::name_of;
@@ -26,7 +26,7 @@ ghost use lib.Dec.{eqb};
 ghost use Prim.Native.Nat.{ℕ, _≤_, _<_};
 ghost use Rattle.component.specs.Walking.{Walking};
 ghost use Rattle.image.specs.Counts.{Counted};
-ghost use Rattle.walk.specs.Open.{rest, Resting, Ready, Advanced, Behind, Proceeded, Entered, Stepped};
+ghost use Rattle.walk.specs.OpenTexts.{rest, Resting, Ready, Advanced, Behind, Proceeded, Entered, Stepped};
 
 // A walk between two components: its state, the text that it reads and where in it, and how many texts are suspended behind that.
 pub struct Walk {
@@ -254,7 +254,7 @@ pub fn run<'a>(
                 return finish(image, c, k, end);
             }
             Next::Failed(errno, end) => {
-                return refuse(errno, end.progress);
+                return stop(errno, end.progress);
             }
         }
     }

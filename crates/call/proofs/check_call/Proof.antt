@@ -7,10 +7,11 @@ use Rattle.model.specs.Tree.{treeOf}
 use Rattle.model.specs.OpenHow.{howRefused}
 use Rattle.model.specs.Path.{pathRefused}
 use Rattle.model.specs.Handles.{handleRefused}
-use Rattle.open_how.specs.Checks.{fieldsOf, readHow}
+use Rattle.open_how.specs.Fields.{fieldsOf, readHow}
 use Rattle.call.specs.Calls.{refusedAfterTable, callRead}
 use Rattle.call.specs.declared.CallRead.the-variants.{Walks}
-use Rattle.open_how.proofs.CheckLaws.{passed, stopped, how-passed, how-stopped}
+use Rattle.checks.proofs.CheckLaws.{passed, stopped}
+use Rattle.open_how.proofs.CheckLaws.{how-passed, how-stopped}
 use Rattle.call.proofs.check_call.Statement.{statement}
 use Rattle.call.proofs.check_call.Tie as tie
 

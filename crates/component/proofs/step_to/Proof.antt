@@ -37,7 +37,7 @@ unfolding stepTo isLink
 returns c =
     let a = c .before .before .before .before .args in
     let kind : treeOf (now (a .image)) .kind (a .n) ≡ 1 = sym (c .before .before .node-kind .ensures .0) ∙ c .before .match .keys1 in
-    c .enter .ensures ∙ rw kind
+    c .enter .ensures (a .k .mark) ∙ rw kind
 
 returns-2 : tie.Need-returns-2
 returns-2 c =

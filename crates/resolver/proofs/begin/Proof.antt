@@ -5,7 +5,7 @@ use native.Mathlib.Omega.{arith}
 use denote.Ref.{now}
 use Rattle.text.specs.Positions.{slashes}
 use Rattle.text.proofs.Components.{start-past, past-within}
-use Rattle.walk.specs.Open.{rest, Ready}
+use Rattle.walk.specs.OpenTexts.{rest, Ready}
 use Rattle.resolver.proofs.BeginLaws.{walkAt, begin-ended, begin-ready, begin-rest}
 use Rattle.resolver.proofs.begin.Statement.{statement}
 use Rattle.resolver.proofs.begin.Tie as tie

@@ -21,8 +21,8 @@ resolve-accepted-requires c κs = sym (c .before .before .check .ensures .0) ∙
 enum-told-2 : tie.Need-enum-told-2
 enum-told-2 c = search needs
 
-refuse-requires : tie.Need-refuse-requires
-refuse-requires c κs = search needs
+stop-requires : tie.Need-stop-requires
+stop-requires c κs = search needs
 
 returns : tie.Need-returns
 returns c = (c .resolve-accepted .ensures .0, c .resolve-accepted .ensures .1, refl, refl, refl)
@@ -32,7 +32,7 @@ returns-2 c =
     let args = c .before .before .before .before .before .before .before .args in
     let check = c .before .before .before .check in
     let enum-told2 = c .before .enum-told2 in
-    let e = c .refuse .ensures ∙ broken-call (now (args .image)) (args .h) (now (args .path)) (now (args .how)) _ _ (sym (check .ensures .0) ∙ enum-told2 .given .1) in
+    let e = c .stop .ensures ∙ broken-call (now (args .image)) (args .h) (now (args .path)) (now (args .how)) _ _ (sym (check .ensures .0) ∙ enum-told2 .given .1) in
     (e, subst (λ a. Bounded (progressOf a)) (sym e) (every-walk-bounded _ _), refl, refl, refl)
 
 pub resolve-spec : {M : Type 1} → statement M
@@ -43,6 +43,6 @@ resolve-spec =
     enum-told
     resolve-accepted-requires
     enum-told-2
-    refuse-requires
+    stop-requires
     returns
     returns-2)

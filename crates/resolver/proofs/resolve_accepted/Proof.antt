@@ -9,7 +9,7 @@ use Rattle.theorems.proofs.Bounds.{every-walk-bounded}
 use Rattle.model.specs.Resolve.{callOf, refusedBefore}
 use Rattle.laws.proofs.Acceptance.{accepted-sized}
 use Rattle.image.specs.Counts.{Counted}
-use Rattle.open_how.specs.Checks.{fieldsOf}
+use Rattle.open_how.specs.Fields.{fieldsOf}
 use Rattle.call.proofs.CallLaws.{accepted-call}
 use Rattle.image.proofs.CountLaws.{counted}
 use Rattle.resolver.proofs.CallLaws.{walks-none, refused-some, walked, walking-of, refused-call}

@@ -18,8 +18,8 @@ returns : tie.Need-returns
 unfolding walkPath
 returns c = c .begin .ensures ∙ rw (sym (c .before .before .is-absolute .ensures) ∙ not-true _ (c .before .if1 .taken))
 
-refuse-requires : tie.Need-refuse-requires
-refuse-requires c κs = search needs
+stop-requires : tie.Need-stop-requires
+stop-requires c κs = search needs
 
 returns-2 : tie.Need-returns-2
 unfolding walkPath answer forbids row firstSet
@@ -27,13 +27,13 @@ returns-2 c =
     let is-absolute = c .before .before .before .is-absolute in
     let if1 = c .before .before .if1 in
     let if2 = c .before .if2 in
-    c .refuse .ensures ∙ rw (sym (is-absolute .ensures) ∙ not-false _ (if1 .left), if2 .taken)
+    c .stop .ensures ∙ rw (sym (is-absolute .ensures) ∙ not-false _ (if1 .left), if2 .taken)
 
 has-requires : tie.Need-has-requires
 has-requires c κs = omega arith
 
-refuse-requires-2 : tie.Need-refuse-requires-2
-refuse-requires-2 c κs = search needs
+stop-requires-2 : tie.Need-stop-requires-2
+stop-requires-2 c κs = search needs
 
 returns-3 : tie.Need-returns-3
 unfolding walkPath answer forbids row firstSet
@@ -43,7 +43,7 @@ returns-3 c =
     let if2 = c .before .before .before .if2 in
     let has = c .before .before .has in
     let if3 = c .before .if3 in
-    c .refuse2 .ensures ∙ rw (sym (is-absolute .ensures) ∙ not-false _ (if1 .left), if2 .left, sym (has .ensures) ∙ if3 .taken)
+    c .stop2 .ensures ∙ rw (sym (is-absolute .ensures) ∙ not-false _ (if1 .left), if2 .left, sym (has .ensures) ∙ if3 .taken)
 
 begin-requires-2 : tie.Need-begin-requires-2
 begin-requires-2 c κs = search needs
@@ -65,10 +65,10 @@ walk-path-spec =
     is-absolute-requires
     begin-requires
     returns
-    refuse-requires
+    stop-requires
     returns-2
     has-requires
-    refuse-requires-2
+    stop-requires-2
     returns-3
     begin-requires-2
     returns-4)

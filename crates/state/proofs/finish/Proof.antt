@@ -13,8 +13,8 @@ node-kind-requires c κs =
     let pre = c .before .before .before .pre in
     (pre .0 .reading .counted .sized, pre .1 .node-below)
 
-refuse-requires : tie.Need-refuse-requires
-refuse-requires c κs = tt
+stop-requires : tie.Need-stop-requires
+stop-requires c κs = tt
 
 returns : tie.Need-returns
 returns c =
@@ -23,10 +23,10 @@ returns c =
     let if1 = c .before .if1 in
     let matched = c .before .before .match in
     let kind = node-kind .ensures .0 in
-    c .refuse .ensures ∙ end-required (requestFor (now (a .image)) (a .k)) (a .s) (if1 .taken) (λ e. omega (arith, kind, matched .keys2))
+    c .stop .ensures ∙ end-required (requestFor (now (a .image)) (a .k)) (a .s) (if1 .taken) (λ e. omega (arith, kind, matched .keys2))
 
-refuse-requires-2 : tie.Need-refuse-requires-2
-refuse-requires-2 c κs = tt
+stop-requires-2 : tie.Need-stop-requires-2
+stop-requires-2 c κs = tt
 
 returns-2 : tie.Need-returns-2
 returns-2 c =
@@ -35,18 +35,18 @@ returns-2 c =
     let if4 = c .before .if4 in
     let if2 = c .before .before .before .if2 in
     let kind = node-kind .ensures .0 in
-    c .refuse2 .ensures ∙ end-required (requestFor (now (a .image)) (a .k)) (a .s) (if4 .taken) (λ e. omega (arith, kind, if2 .left))
+    c .stop2 .ensures ∙ end-required (requestFor (now (a .image)) (a .k)) (a .s) (if4 .taken) (λ e. omega (arith, kind, if2 .left))
 
 returns-3 : tie.Need-returns-3
 returns-3 c =
     let a = c .before .before .before .before .before .before .before .before .before .args in
     end-link-path (requestFor (now (a .image)) (a .k)) (a .s) (c .before .if4 .left) (c .if5 .taken)
 
-refuse-requires-3 : tie.Need-refuse-requires-3
-refuse-requires-3 c κs = tt
+stop-requires-3 : tie.Need-stop-requires-3
+stop-requires-3 c κs = tt
 
-refuse-requires-4 : tie.Need-refuse-requires-4
-refuse-requires-4 c κs = tt
+stop-requires-4 : tie.Need-stop-requires-4
+stop-requires-4 c κs = tt
 
 returns-4 : tie.Need-returns-4
 returns-4 c =
@@ -55,7 +55,7 @@ returns-4 c =
     let if6 = c .before .if6 in
     let matched = c .before .before .before .match in
     let kind = node-kind .ensures .0 in
-    c .refuse4 .ensures ∙ end-required (requestFor (now (a .image)) (a .k)) (a .s) (if6 .taken) (λ e. matched .rest .0 .1 (kind ∙ e))
+    c .stop4 .ensures ∙ end-required (requestFor (now (a .image)) (a .k)) (a .s) (if6 .taken) (λ e. matched .rest .0 .1 (kind ∙ e))
 
 returns-5 : tie.Need-returns-5
 returns-5 c =
@@ -82,7 +82,7 @@ returns-7 c =
     let kind = node-kind .ensures .0 in
     let low = if2 .left in
     let high = if3 .taken in
-    c .refuse3 .ensures ∙ end-link (requestFor (now (a .image)) (a .k)) (a .s) (if4 .left) (omega (arith, kind, low)) (omega (arith, kind, high)) (if5 .left)
+    c .stop3 .ensures ∙ end-link (requestFor (now (a .image)) (a .k)) (a .s) (if4 .left) (omega (arith, kind, low)) (omega (arith, kind, high)) (if5 .left)
 
 returns-8 : tie.Need-returns-8
 returns-8 c =
@@ -99,13 +99,13 @@ finish-spec =
     tie.close
     (tie.spec
     node-kind-requires
-    refuse-requires
+    stop-requires
     returns
-    refuse-requires-2
+    stop-requires-2
     returns-2
     returns-3
-    refuse-requires-3
-    refuse-requires-4
+    stop-requires-3
+    stop-requires-4
     returns-4
     returns-5
     returns-6

@@ -5,8 +5,8 @@ use mathlib.Core.Path.{refl, sym, ap, subst}
 use denote.Ref.{now}
 use Rattle.model.specs.Tree.{treeOf}
 use Rattle.model.specs.declared.State.{State}
-use Rattle.walk.specs.Open.{Resting, Advanced, OutcomeInside, afterOutcome, proceed}
-use Rattle.walk.proofs.OpenLaws.{inState, went-resting, went-leads, followed-resting, target-leads}
+use Rattle.walk.specs.OpenTexts.{Resting, Advanced, OutcomeInside, afterOutcome, proceed}
+use Rattle.walk.proofs.OutcomeLaws.{inState, went-resting, went-leads, followed-resting, target-leads}
 use Rattle.walk.proofs.PendingLaws.{leads-to}
 use Rattle.walk.proofs.proceed.Statement.{statement}
 use Rattle.walk.proofs.proceed.Tie as tie

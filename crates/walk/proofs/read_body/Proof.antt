@@ -12,8 +12,8 @@ use Rattle.model.specs.Walk.{followedTo}
 use Rattle.laws.proofs.Acceptance.{accepted-sound, symlink-facts}
 use Rattle.text.specs.Positions.{slashes}
 use Rattle.text.proofs.Components.{start-past, past-within}
-use Rattle.walk.specs.Open.{Resting, Advanced, Entered}
-use Rattle.walk.proofs.OpenLaws.{inState, slashOf, followed-resting, read-behind, read-entered, below}
+use Rattle.walk.specs.OpenTexts.{Resting, Advanced, Entered}
+use Rattle.walk.proofs.OutcomeLaws.{inState, slashOf, followed-resting, read-behind, read-entered, below}
 use Rattle.walk.proofs.read_body.Statement.{statement}
 use Rattle.walk.proofs.read_body.Tie as tie
 

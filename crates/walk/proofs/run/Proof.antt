@@ -6,7 +6,7 @@ use mathlib.Core.Path.{_≡_, refl, sym, _∙_, subst}
 use native.Mathlib.Omega.{arith}
 use lib.ListN.{length}
 use denote.Ref.{now}
-use Rattle.walk.specs.Open.{rest, Ready}
+use Rattle.walk.specs.OpenTexts.{rest, Ready}
 use Rattle.walk.proofs.RunLaws.{goes-further, further-ready, further-same, ended-inside, ended-same, failed-same}
 use Rattle.walk.proofs.run.Statement.{statement}
 use Rattle.walk.proofs.run.Tie as tie
@@ -69,8 +69,8 @@ returns c =
 enum-known-next-3 : tie.Need-enum-known-next-3 Inv-loop μ-loop
 enum-known-next-3 c = search needs
 
-refuse-requires : tie.Need-refuse-requires Inv-loop μ-loop
-refuse-requires c κs = search needs
+stop-requires : tie.Need-stop-requires Inv-loop μ-loop
+stop-requires c κs = search needs
 
 same-length-2 : tie.Need-same-length-2 Inv-loop μ-loop
 same-length-2 c = search needs
@@ -81,7 +81,7 @@ returns-2 c =
     let loop = c .before .before .before .before .before .before .before .before .loop in
     let step = c .before .before .before .before .before .before .step in
     let next3 = c .before .before .next3 in
-    c .refuse .ensures ∙ failed-same (pre .0) (loop .inv .1) (step .ensures) (next3 .given .1) ∙ loop .inv .2
+    c .stop .ensures ∙ failed-same (pre .0) (loop .inv .1) (step .ensures) (next3 .given .1) ∙ loop .inv .2
 
 pub run-spec : {M : Type 1} → statement M
 run-spec =
@@ -99,6 +99,6 @@ run-spec =
     same-length
     returns
     enum-known-next-3
-    refuse-requires
+    stop-requires
     same-length-2
     returns-2)

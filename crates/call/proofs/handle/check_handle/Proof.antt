@@ -8,7 +8,7 @@ use Rattle.model.specs.Bytes.{isSome}
 use Rattle.model.specs.Tree.{treeOf, under, mountOn, covered}
 use Rattle.model.specs.Handles.{placeOf}
 use Rattle.laws.proofs.Acceptance.{accepted-sound}
-use Rattle.open_how.specs.Checks.{checkOf}
+use Rattle.checks.specs.Checks.{checkOf}
 use Rattle.parts.proofs.SearchLaws.{search-at, search-nowhere}
 use Rattle.call.proofs.HandleLaws.{no-mount, no-node, no-directory, not-under, is-covered, is-good}
 use Rattle.call.proofs.handle.check_handle.Statement.{statement}

@@ -24,20 +24,20 @@ to-parent-requires c κs = search needs
 
 returns : tie.Need-returns
 unfolding climb
-returns c =
+returns c mark =
     let args = c .before .before .before .before .before .args in
     let mount-root = c .before .before .before .mount-root in
     let if1 = c .before .if1 in
     let t = treeOf (now (args .image)) in
     let p = args .p in
-    c .to-parent .ensures ∙ rw (ne-eqb (p .node) (t .mountRoot (p .mount)) (λ e. if1 .taken (e ∙ sym (mount-root .ensures .0))))
+    c .to-parent .ensures mark ∙ rw (ne-eqb (p .node) (t .mountRoot (p .mount)) (λ e. if1 .taken (e ∙ sym (mount-root .ensures .0))))
 
 has-requires : tie.Need-has-requires
 has-requires c κs = omega arith
 
 returns-2 : tie.Need-returns-2
 unfolding climb forbidAny forbids row firstSet
-returns-2 c =
+returns-2 c mark =
     let args = c .before .before .before .before .before .before .args in
     let mount-root = c .before .before .before .before .mount-root in
     let if1 = c .before .before .if1 in
@@ -66,7 +66,7 @@ to-parent-requires-2 c κs =
 
 returns-3 : tie.Need-returns-3
 unfolding climb pointOf forbidAny forbids row firstSet
-returns-3 c =
+returns-3 c mark =
     let args = c .before .before .before .before .before .before .before .before .before .args in
     let mount-root = c .before .before .before .before .before .before .before .mount-root in
     let if1 = c .before .before .before .before .before .if1 in
@@ -76,8 +76,8 @@ returns-3 c =
     let mount-point = c .before .mount-point in
     let t = treeOf (now (args .image)) in
     let p = args .p in
-    let R = restrictionsBy (args .mark) (args .resolve) in
-    c .to-parent2 .ensures ∙ ap₂ (λ (m n : ℕ). moveOutcome R (toParent t (placeAt m n))) (mount-parent .ensures .0) (mount-point .ensures .0)
+    let R = restrictionsBy mark (args .resolve) in
+    c .to-parent2 .ensures mark ∙ ap₂ (λ (m n : ℕ). moveOutcome R (toParent t (placeAt m n))) (mount-parent .ensures .0) (mount-point .ensures .0)
     ∙ rw (eq-eqb (p .node) (t .mountRoot (p .mount)) (if1 .left ∙ mount-root .ensures .0), sym (has .ensures) ∙ if2 .left)
 
 pub climb-spec : {M : Type 1} → statement M

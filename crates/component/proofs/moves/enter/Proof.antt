@@ -24,7 +24,7 @@ has-requires c κs = omega arith
 
 returns : tie.Need-returns
 unfolding forbidAny forbids row firstSet enter
-returns c =
+returns c mark =
     let args = c .before .before .before .before .before .before .before .args in
     let find-mount = c .before .before .before .before .before .find-mount in
     let found = c .before .before .before .found in
@@ -50,7 +50,7 @@ enum-told c = search needs
 
 returns-2 : tie.Need-returns-2
 unfolding forbidAny forbids row firstSet enter rootOf
-returns-2 c =
+returns-2 c mark =
     let args = c .before .before .before .before .before .before .before .before .args in
     let find-mount = c .before .before .before .before .before .before .find-mount in
     let found = c .before .before .before .before .found in
@@ -63,7 +63,7 @@ returns-2 c =
 
 returns-3 : tie.Need-returns-3
 unfolding forbidAny enter
-returns-3 c =
+returns-3 c mark =
     let args = c .before .before .before .before .args in
     let find-mount = c .before .before .find-mount in
     let t = treeOf (now (args .image)) in

@@ -27,10 +27,10 @@ enter-requires c κs =
 
 returns : tie.Need-returns
 unfolding toParent
-returns c =
+returns c mark =
     let args = c .before .before .before .args in
     let node-parent = c .before .node-parent in
-    c .enter .ensures ∙ ap (λ (n : ℕ). moveOutcome (restrictionsBy (args .mark) (args .resolve)) (enter (treeOf (now (args .image))) (placeAt (args .p .mount) n))) (node-parent .ensures .0)
+    c .enter .ensures mark ∙ ap (λ (n : ℕ). moveOutcome (restrictionsBy mark (args .resolve)) (enter (treeOf (now (args .image))) (placeAt (args .p .mount) n))) (node-parent .ensures .0)
 
 pub to-parent-spec : {M : Type 1} → statement M
 to-parent-spec = tie.close (tie.spec node-parent-requires enter-requires returns)

@@ -51,7 +51,7 @@ returns-3 c =
     let if2 = c .before .if2 in
     let t = treeOf (now (args .image)) in
     let e : samePlace (args .p) (placeAt 0 (t .mountRoot 0)) ≡ false = ap (λ (n : ℕ). samePlace (args .p) (placeAt 0 n)) (sym (mount-root .ensures .0)) ∙ sym (same-place2 .ensures) ∙ if2 .left in
-    c .climb .ensures ∙ rw (sym (same-place .ensures) ∙ if1 .left, e)
+    c .climb .ensures (args .k .mark) ∙ rw (sym (same-place .ensures) ∙ if1 .left, e)
 
 pub up-from-spec : {M : Type 1} → statement M
 up-from-spec =

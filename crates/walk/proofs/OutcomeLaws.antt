@@ -23,7 +23,7 @@ use Rattle.component.specs.Walking.{Walking}
 use Rattle.component.specs.declared.Ask.{Ask}
 use Rattle.component.specs.declared.Outcome.the-variants.{Go, Target, Read}
 use Rattle.parts.specs.declared.records.Counts.{Counts}
-use Rattle.walk.specs.Open.{leftIn, suspended, pending, linksLeft, Resting, Leads, Advanced, OutcomeInside, afterOutcome, proceed, Entered}
+use Rattle.walk.specs.OpenTexts.{leftIn, suspended, pending, linksLeft, Resting, Leads, Advanced, OutcomeInside, afterOutcome, proceed, Entered}
 use Rattle.walk.specs.declared.Walk.{Walk}
 use Rattle.walk.specs.declared.Next.{Next}
 use Rattle.walk.specs.declared.Next.the-variants.{More}

@@ -1,4 +1,4 @@
--- What the checks of an open_how answer: each is a refusal of the model, or what the code goes on with.
+-- What the checks of an open_how come to: a refusal of the model, or the fields that a walk goes by.
 use Prim.Native.Nat.{ℕ}
 use mathlib.Core.List.{List}
 use mathlib.Core.Option.{Option, none, some}
@@ -8,16 +8,9 @@ use Rattle.model.specs.Answers.{refuseIf}
 use Rattle.model.specs.OpenHow.{flagsOf, resolveOf, tailSet, howRefused}
 use Rattle.model.specs.declared.Refusal.{Refusal}
 use Rattle.model.specs.declared.Errno.the-variants.{Einval, E2big}
-use Rattle.open_how.specs.declared.Check.{Check}
-use Rattle.open_how.specs.declared.Check.the-variants.{Passes, Refused}
 use Rattle.open_how.specs.declared.How.{How}
 use Rattle.open_how.specs.declared.HowRead.{HowRead}
-use Rattle.open_how.specs.declared.HowRead.the-variants.{Fields, Refused as HowRefused}
-
--- a check's answer, as the code gives it
-abbrev pub checkOf : Option Refusal → Check
-checkOf none = Passes
-checkOf (some r) = Refused r
+use Rattle.open_how.specs.declared.HowRead.the-variants.{Fields, Refused}
 
 -- "open_how length (too short, too long, tail)"
 unfoldable pub lengthRefused : List ℕ → Option Refusal
@@ -33,7 +26,7 @@ fieldsOf how = record { flags = flagsOf how; resolve = resolveOf how }
 -- the fields, unless there is a refusal
 abbrev pub fieldsUnless : Option Refusal → How → HowRead
 fieldsUnless none f = Fields f
-fieldsUnless (some r) f = HowRefused r
+fieldsUnless (some r) f = Refused r
 
 -- "Order: .. open_how length (too short, too long, tail), flags, resolve, both scopes, mode, ..": the first refusal, else the fields
 unfoldable pub readHow : List ℕ → HowRead

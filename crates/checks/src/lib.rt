@@ -1,0 +1,26 @@
+// What a check before the walk answers.
+use model::Errno;
+use model::Progress;
+use model::Refusal;
+ghost use mathlib.Core.Path.{_≡_};
+ghost use Rattle.model.specs.Answers.{refusal, notWalked};
+
+// One check's answer.
+pub enum Check {
+    Passes,
+    Refused(Refusal),
+}
+
+// Both counts are 0 before the walk, and the detail is 255 except for unknown bits.
+pub fn refuse(errno: Errno) -> Check
+    ensures { λ r. ⌜ r ≡ Check.Refused (refusal errno notWalked) ⌝ }
+{
+    Check::Refused(Refusal {
+        errno,
+        detail: 255,
+        progress: Progress {
+            components: 0,
+            links: 0,
+        },
+    })
+}
