@@ -160,5 +160,11 @@ pub fn first_bad_entry(nodes: &[u8], entries: &[u8], text: &[u8], c: Counts) -> 
     if c.entries == 0 {
         return Search::Nowhere;
     }
-    bad_entry(nodes, entries, text, c, sure_records(entries, text, c.entries, true))
+    bad_entry(
+        nodes,
+        entries,
+        text,
+        c,
+        sure_records(entries, text, c.entries, true),
+    )
 }

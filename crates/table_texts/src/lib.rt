@@ -120,7 +120,11 @@ fn first_by_marks(records: &[u8], text: &[u8], count: usize, names: bool) -> usi
 fn text_clean(text: &[u8], count: usize, names: bool) -> bool
     ensures { λ r. ⌜ r ≡ seenClean names (now (text .entry)) count ⌝ }
 {
-    let many = if names { 16 + text.len() / 64 } else { 4 + text.len() / 32 };
+    let many = if names {
+        16 + text.len() / 64
+    } else {
+        4 + text.len() / 32
+    };
     if count < many {
         return false;
     }

@@ -59,7 +59,7 @@ module _ (test : ℕ → Bool) (text : List ℕ) where
   unfolding marksOf
   eight-weights at =
       let w : (i value : ℕ) → cond (test (getD text (at + i) 0)) value 0 ≡ value * digit (test (getD text (at + i) 0)) =
-          λ i value. weighs (test (getD text (at + i) 0)) value in
+      λ i value. weighs (test (getD text (at + i) 0)) value in
       let a : (i : ℕ) → at + i + 1 ≡ at + suc i = λ i. omega arith in
       rw (a 1, a 2, a 3, a 4, a 5, a 6) (omega (arith, w 1 2, w 2 4, w 3 8, w 4 16, w 5 32, w 6 64, w 7 128))
 

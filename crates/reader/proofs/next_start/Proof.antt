@@ -5,11 +5,8 @@ use Rattle.reader.specs.declared.Span.{Span}
 use Rattle.reader.proofs.next_start.Statement.{statement}
 use Rattle.reader.proofs.next_start.Tie as tie
 
-span-at-requires : tie.Need-span-at-requires
-span-at-requires c κs = search needs
-
 returns : tie.Need-returns
 returns c = ap (λ (p : Span). p .next) (c .span-at .ensures)
 
 pub next-start-spec : {M : Type 1} → statement M
-next-start-spec = tie.close (tie.spec span-at-requires returns)
+next-start-spec = tie.close (tie.spec (λ c κs. search needs) returns)

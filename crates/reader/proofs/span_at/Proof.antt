@@ -8,12 +8,6 @@ use Rattle.reader.specs.declared.Span.{Span}
 use Rattle.reader.proofs.span_at.Statement.{statement}
 use Rattle.reader.proofs.span_at.Tie as tie
 
-component-end-requires : tie.Need-component-end-requires
-component-end-requires c κs = search needs
-
-skip-slashes-requires : tie.Need-skip-slashes-requires
-skip-slashes-requires c κs = search needs
-
 returns : tie.Need-returns
 returns c =
     let e = c .before .component-end .ensures in
@@ -21,4 +15,4 @@ returns c =
     ap₂ span e (c .skip-slashes .ensures ∙ ap (pastSlashes (now (c .before .before .before .args .s))) e)
 
 pub span-at-spec : {M : Type 1} → statement M
-span-at-spec = tie.close (tie.spec component-end-requires skip-slashes-requires returns)
+span-at-spec = tie.close (tie.spec (λ c κs. search needs) (λ c κs. search needs) returns)

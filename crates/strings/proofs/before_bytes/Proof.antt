@@ -1,5 +1,6 @@
 -- `strings::before_bytes` meets its contract. The loop's invariant: the order of the strings is that of what they hold from `i` on.
 -- Assumes nothing.
+use borrow.Author.Needs.{needs}
 use Prim.Native.Nat.{_≤_, _-_}
 use mathlib.Core.Bool.{or-false}
 use native.Mathlib.Nat.{le-of-eq}
@@ -28,18 +29,6 @@ returns c =
     let args = c .before .before .before .args in
     sym (loop .inv .2 ∙ before-short (now (args .a)) (now (args .b)) (loop .i) (c .if1 .taken))
 
-shared-slice-read-if2 : tie.Need-shared-slice-read-if2 Inv-loop μ-loop
-shared-slice-read-if2 c = omega arith
-
-shared-slice-read-if2-2 : tie.Need-shared-slice-read-if2-2 Inv-loop μ-loop
-shared-slice-read-if2-2 c = omega arith
-
-shared-slice-read-result : tie.Need-shared-slice-read-result Inv-loop μ-loop
-shared-slice-read-result c = omega arith
-
-shared-slice-read-result-2 : tie.Need-shared-slice-read-result-2 Inv-loop μ-loop
-shared-slice-read-result-2 c = omega arith
-
 returns-2 : tie.Need-returns-2 Inv-loop μ-loop
 returns-2 c =
     let args = c .before .before .before .before .before .before .before .before .args in
@@ -50,12 +39,6 @@ returns-2 c =
     let a = now (args .a) in
     let b = now (args .b) in
     sym (loop .inv .2 ∙ before-next a b (loop .i) (test .taken) (if1 .left) ∙ rw (ne-eqb _ _ (if2 .taken)) (or-false _))
-
-add-i : tie.Need-add-i Inv-loop μ-loop
-add-i c = omega arith
-
-loop-less : tie.Need-loop-less Inv-loop μ-loop
-loop-less c = omega arith
 
 loop-again : tie.Need-loop-again Inv-loop μ-loop
 loop-again c =
@@ -81,12 +64,8 @@ before-bytes-spec =
     μ-loop
     loop-holds
     returns
-    shared-slice-read-if2
-    shared-slice-read-if2-2
-    shared-slice-read-result
-    shared-slice-read-result-2
+    (λ c. search needs) (λ c. search needs) (λ c. search needs) (λ c. search needs)
     returns-2
-    add-i
-    loop-less
+    (λ c. search needs) (λ c. search needs)
     loop-again
     returns-3)

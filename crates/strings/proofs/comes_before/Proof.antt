@@ -6,18 +6,6 @@ use borrow.Author.Needs.{needs}
 use Rattle.strings.proofs.comes_before.Statement.{statement}
 use Rattle.strings.proofs.comes_before.Tie as tie
 
-shorter-requires : tie.Need-shorter-requires
-shorter-requires c κs = search needs
-
-before-bytes-requires : tie.Need-before-bytes-requires
-before-bytes-requires c κs = search needs
-
-returns : tie.Need-returns
-returns c = search needs
-
-deciding-requires : tie.Need-deciding-requires
-deciding-requires c κs = search needs
-
 big32-at-requires : tie.Need-big32-at-requires
 big32-at-requires c κs = omega (arith, c .deciding .ensures .within)
 
@@ -54,4 +42,11 @@ returns-3 c =
     (omega arith) (omega arith) (λ h. omega (arith, shorter .ensures .2 (omega arith))) (c .if2 .left)
 
 pub comes-before-spec : {M : Type 1} → statement M
-comes-before-spec = tie.close (tie.spec shorter-requires before-bytes-requires returns deciding-requires big32-at-requires big32-at-requires-2 returns-2 returns-3)
+comes-before-spec =
+    tie.close
+    (tie.spec
+    (λ c κs. search needs) (λ c κs. search needs) (λ c. search needs) (λ c κs. search needs)
+    big32-at-requires
+    big32-at-requires-2
+    returns-2
+    returns-3)

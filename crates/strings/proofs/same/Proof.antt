@@ -12,11 +12,5 @@ returns c =
     let args = c .before .before .before .args in
     sym (differing (now (args .a)) (now (args .b)) (λ q. omega arith))
 
-same-sized-requires : tie.Need-same-sized-requires
-same-sized-requires c κs = search needs
-
-returns-2 : tie.Need-returns-2
-returns-2 c = search needs
-
 pub same-spec : {M : Type 1} → statement M
-same-spec = tie.close (tie.spec returns same-sized-requires returns-2)
+same-spec = tie.close (tie.spec returns (λ c κs. search needs) (λ c. search needs))

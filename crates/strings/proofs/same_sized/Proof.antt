@@ -6,21 +6,6 @@ use borrow.Author.Needs.{needs}
 use Rattle.strings.proofs.same_sized.Statement.{statement}
 use Rattle.strings.proofs.same_sized.Tie as tie
 
-same-bytes-requires : tie.Need-same-bytes-requires
-same-bytes-requires c κs = search needs
-
-returns : tie.Need-returns
-returns c = search needs
-
-deciding-four-requires : tie.Need-deciding-four-requires
-deciding-four-requires c κs = search needs
-
-u32-at-requires : tie.Need-u32-at-requires
-u32-at-requires c κs = search needs
-
-u32-at-requires-2 : tie.Need-u32-at-requires-2
-u32-at-requires-2 c κs = search needs
-
 returns-2 : tie.Need-returns-2
 returns-2 c =
     let args = c .before .before .before .before .before .before .before .args in
@@ -30,15 +15,6 @@ returns-2 c =
     let u32-at = c .before .u32-at in
     let pre = c .before .before .before .before .before .before .before .pre in
     deciding-same 4 (now (args .a)) (now (args .b)) (λ k. omega (arith, shared-slice-known .given k)) (λ k. omega (arith, shared-slice-known2 .given k)) _ (deciding-four .result) (deciding-four .ensures) (u32-at .result) (c .u32-at2 .result) (u32-at .ensures .0) (c .u32-at2 .ensures .0) (omega arith) (pre)
-
-deciding-eight-requires : tie.Need-deciding-eight-requires
-deciding-eight-requires c κs = search needs
-
-u64-at-requires : tie.Need-u64-at-requires
-u64-at-requires c κs = search needs
-
-u64-at-requires-2 : tie.Need-u64-at-requires-2
-u64-at-requires-2 c κs = search needs
 
 returns-3 : tie.Need-returns-3
 returns-3 c =
@@ -54,13 +30,7 @@ pub same-sized-spec : {M : Type 1} → statement M
 same-sized-spec =
     tie.close
     (tie.spec
-    same-bytes-requires
-    returns
-    deciding-four-requires
-    u32-at-requires
-    u32-at-requires-2
+    (λ c κs. search needs) (λ c. search needs) (λ c κs. search needs) (λ c κs. search needs) (λ c κs. search needs)
     returns-2
-    deciding-eight-requires
-    u64-at-requires
-    u64-at-requires-2
+    (λ c κs. search needs) (λ c κs. search needs) (λ c κs. search needs)
     returns-3)

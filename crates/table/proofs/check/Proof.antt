@@ -27,9 +27,6 @@ returns-2 c =
     let s = now (c .before .before .before .args .image) in
     (simp (lt-leb (length s) 65536 (omega arith), and-false), refl)
 
-is-signed-requires : tie.Need-is-signed-requires
-is-signed-requires c κs = search needs
-
 returns-3 : tie.Need-returns-3
 unfolding tableCheck rule1 rule2
 returns-3 c =
@@ -39,12 +36,6 @@ returns-3 c =
     let is-signed = c .before .is-signed in
     let s = now (args .image) in
     (rw (le-leb 20 (length s) (omega (arith, if1 .left)), le-leb (length s) 65536 (omega (arith, if2 .left)), sym (is-signed .ensures) ∙ not-true _ (c .if3 .taken)), refl)
-
-read-counts-requires : tie.Need-read-counts-requires
-read-counts-requires c κs = search needs
-
-text-length-requires : tie.Need-text-length-requires
-text-length-requires c κs = search needs
 
 sizes-fit-requires : tie.Need-sizes-fit-requires
 unfolding treeOf
@@ -170,10 +161,9 @@ check-spec =
     (tie.spec
     returns
     returns-2
-    is-signed-requires
+    (λ c κs. search needs)
     returns-3
-    read-counts-requires
-    text-length-requires
+    (λ c κs. search needs) (λ c κs. search needs)
     sizes-fit-requires
     returns-4
     nodes-requires

@@ -11,12 +11,6 @@ use Rattle.table.proofs.RuleLaws.{unbroken, breaker}
 use Rattle.table.proofs.check_records.Statement.{statement}
 use Rattle.table.proofs.check_records.Tie as tie
 
-first-bad-node-requires : tie.Need-first-bad-node-requires
-first-bad-node-requires c κs = c .before .before .before .before .pre .0
-
-enum-known-node : tie.Need-enum-known-node
-enum-known-node c = search needs
-
 returns : tie.Need-returns
 unfolding recordsCheck
 returns c =
@@ -49,9 +43,6 @@ first-bad-entry-requires c κs =
       directories-hold = directories-hold (a .c) n m e x [] e x directories;
     }
 
-enum-known-entry : tie.Need-enum-known-entry
-enum-known-entry c = search needs
-
 returns-2 : tie.Need-returns-2
 unfolding recordsCheck
 returns-2 c =
@@ -69,9 +60,6 @@ returns-2 c =
     let bad = breaker (rule5-parts (a .c) n m e x) (first-bad-entry .ensures) (entry .given .1) in
     rw (four, bad)
 
-enum-told-2 : tie.Need-enum-told-2
-enum-told-2 c = search needs
-
 first-bad-mount-requires : tie.Need-first-bad-mount-requires
 first-bad-mount-requires c κs =
     let a = c .before .before .before .before .before .before .before .before .before .before .args in
@@ -86,9 +74,6 @@ first-bad-mount-requires c κs =
     let four = unbroken (rule4-parts (a .c) n m e x) (first-bad-node .ensures) (enum-told .given .1) in
     let directories = rule4-nodes t four .directories-hold in
     (pre .0, pre .1, directories-hold (a .c) n m e x m [] [] directories)
-
-enum-known-mount : tie.Need-enum-known-mount
-enum-known-mount c = search needs
 
 returns-3 : tie.Need-returns-3
 unfolding recordsCheck
@@ -110,9 +95,6 @@ returns-3 c =
     let bad = breaker (rule6-parts (a .c) n m e x) (first-bad-mount .ensures) (mount .given .1) in
     rw (four, five, bad)
 
-enum-told-3 : tie.Need-enum-told-3
-enum-told-3 c = search needs
-
 first-bad-target-requires : tie.Need-first-bad-target-requires
 first-bad-target-requires c κs =
     let a = c .before .before .before .before .before .before .before .before .before .before .before .before .before .args in
@@ -127,9 +109,6 @@ first-bad-target-requires c κs =
     let four = unbroken (rule4-parts (a .c) n m e x) (first-bad-node .ensures) (enum-told .given .1) in
     let directories = rule4-nodes t four .directories-hold in
     (pre .0, pre .1, directories-hold (a .c) n m e x m [] [] directories)
-
-enum-known-target : tie.Need-enum-known-target
-enum-known-target c = search needs
 
 returns-4 : tie.Need-returns-4
 unfolding recordsCheck
@@ -153,9 +132,6 @@ returns-4 c =
     let six = unbroken (rule6-parts (a .c) n m e x) (first-bad-mount .ensures) (enum-told3 .given .1) in
     let bad = breaker (rule7-parts (a .c) n m e x) (first-bad-target .ensures) (target .given .1) in
     rw (four, five, six, bad)
-
-enum-told-4 : tie.Need-enum-told-4
-enum-told-4 c = search needs
 
 returns-5 : tie.Need-returns-5
 unfolding recordsCheck
@@ -183,20 +159,19 @@ pub check-records-spec : {M : Type 1} → statement M
 check-records-spec =
     tie.close
     (tie.spec
-    first-bad-node-requires
-    enum-known-node
+    (λ c κs. search needs) (λ c. search needs)
     returns
     enum-told
     first-bad-entry-requires
-    enum-known-entry
+    (λ c. search needs)
     returns-2
-    enum-told-2
+    (λ c. search needs)
     first-bad-mount-requires
-    enum-known-mount
+    (λ c. search needs)
     returns-3
-    enum-told-3
+    (λ c. search needs)
     first-bad-target-requires
-    enum-known-target
+    (λ c. search needs)
     returns-4
-    enum-told-4
+    (λ c. search needs)
     returns-5)

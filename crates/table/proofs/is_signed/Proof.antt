@@ -13,18 +13,9 @@ use Rattle.table.proofs.is_signed.Tie as tie
 slice-aggregate-same : tie.Need-slice-aggregate-same
 slice-aggregate-same c = simp length-take (omega arith)
 
-slice-aggregate-same-2 : tie.Need-slice-aggregate-same-2
-slice-aggregate-same-2 c = search needs
-
-same-requires : tie.Need-same-requires
-same-requires c κs = search needs
-
 returns : tie.Need-returns
 unfolding ascii
 returns c = rw (sym (c .before .same .ensures) ∙ not-true _ (c .if1 .taken))
-
-u16-at-requires : tie.Need-u16-at-requires
-u16-at-requires c κs = search needs
 
 returns-2 : tie.Need-returns-2
 unfolding ascii
@@ -38,8 +29,7 @@ is-signed-spec =
     tie.close
     (tie.spec
     slice-aggregate-same
-    slice-aggregate-same-2
-    same-requires
+    (λ c. search needs) (λ c κs. search needs)
     returns
-    u16-at-requires
+    (λ c κs. search needs)
     returns-2)

@@ -50,30 +50,6 @@ returns-5 c =
     let pre = c .before .before .before .before .before .before .before .before .before .before .before .pre in
     let t = sizesOf (now (args .image)) in simp (lt-leb (t .entries) 4096 (omega (arith, ap (λ x. x .entries) (pre .1))), and-false)
 
-mul-whole : tie.Need-mul-whole
-mul-whole c = search needs
-
-add-whole : tie.Need-add-whole
-add-whole c = search needs
-
-mul-whole-2 : tie.Need-mul-whole-2
-mul-whole-2 c = search needs
-
-add-whole-2 : tie.Need-add-whole-2
-add-whole-2 c = search needs
-
-mul-whole-3 : tie.Need-mul-whole-3
-mul-whole-3 c = search needs
-
-add-whole-3 : tie.Need-add-whole-3
-add-whole-3 c = search needs
-
-add-whole-4 : tie.Need-add-whole-4
-add-whole-4 c = search needs
-
-u32-at-requires : tie.Need-u32-at-requires
-u32-at-requires c κs = search needs
-
 returns-6 : tie.Need-returns-6
 unfolding wholeLength
 returns-6 c =
@@ -103,13 +79,7 @@ sizes-fit-spec =
     returns-3
     returns-4
     returns-5
-    mul-whole
-    add-whole
-    mul-whole-2
-    add-whole-2
-    mul-whole-3
-    add-whole-3
-    add-whole-4
-    u32-at-requires
+    (λ c. search needs) (λ c. search needs) (λ c. search needs) (λ c. search needs) (λ c. search needs)
+    (λ c. search needs) (λ c. search needs) (λ c κs. search needs)
     returns-6
     returns-7)

@@ -1,5 +1,6 @@
 -- `table_entries::bad_entry` meets its contract. The loop's invariant: the lowest bad entry is the lowest from the entries of node `n` on.
 -- Assumes nothing.
+use borrow.Author.Needs.{needs}
 use Prim.Native.Nat.{_-_, _≤_}
 use mathlib.Core.Path.{_≡_, refl, ap, _∙_, sym}
 use native.Mathlib.Omega.{arith}
@@ -30,9 +31,6 @@ bad-in-node-requires c κs =
     let pre = c .before .before .before .before .before .pre in
     (pre .0, omega arith, pre .1)
 
-enum-known-found : tie.Need-enum-known-found Inv-loop μ-loop
-enum-known-found c = omega arith
-
 returns : tie.Need-returns Inv-loop μ-loop
 returns c =
     let a = c .before .before .before .before .before .before .before .before .before .args in
@@ -46,7 +44,7 @@ returns c =
     sym (ap searchOf (rule5-here t (pre .0 .directories-hold) (l .n) (g .0 .0) (omega arith) (l .inv .2) r))
 
 enum-told : tie.Need-enum-told Inv-loop μ-loop
-enum-told c = omega arith
+enum-told c = search needs
 
 ends-entries-requires : tie.Need-ends-entries-requires Inv-loop μ-loop
 ends-entries-requires c κs = (c .before .before .before .before .before .before .before .before .pre .0 .node-records, omega arith)
@@ -65,12 +63,6 @@ returns-2 c =
     let on = rule5-on t d (l .n) (omega arith) (l .inv .2) r in
     let e = ends-counts (a .c) (now (a .nodes)) (now (a .entries)) (now (a .text)) d (l .n) (omega arith) (sym (ends-entries .ensures) ∙ c .if1 .taken) in
     sym (ap searchOf (rule5-end t _ on e))
-
-add-n : tie.Need-add-n Inv-loop μ-loop
-add-n c = omega arith
-
-loop-less : tie.Need-loop-less Inv-loop μ-loop
-loop-less c = omega arith
 
 loop-again : tie.Need-loop-again Inv-loop μ-loop
 loop-again c =
@@ -100,12 +92,11 @@ bad-entry-spec =
     μ-loop
     loop-holds
     bad-in-node-requires
-    enum-known-found
+    (λ c. search needs)
     returns
     enum-told
     ends-entries-requires
     returns-2
-    add-n
-    loop-less
+    (λ c. search needs) (λ c. search needs)
     loop-again
     returns-3)

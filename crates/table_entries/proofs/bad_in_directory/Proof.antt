@@ -1,5 +1,6 @@
 -- `table_entries::bad_in_directory` meets its contract. The loop's invariant: the lowest bad entry of the directory is the lowest from
 -- `e` on, and the name before `e` keeps its sentence. Assumes nothing.
+use borrow.Author.Needs.{needs}
 use Prim.Native.Nat.{ℕ, _+_, _-_, _≤_, _<_}
 use mathlib.Core.Bool.{true, not}
 use mathlib.Core.Path.{_≡_, ap, ap₂, _∙_, sym, subst}
@@ -41,9 +42,6 @@ node-count-requires c κs =
     let t = entriesTree (a .c) (now (a .nodes)) (now (a .entries)) (now (a .text)) in
     omega (arith, directory-below t (p .0 .directories-hold) (a .n) (p .1), p .0 .node-records .whole)
 
-add-end : tie.Need-add-end Inv-loop μ-loop
-add-end c = omega arith
-
 loop-holds : tie.Need-loop-holds Inv-loop μ-loop
 loop-holds c =
     let node-first = c .before .node-first in
@@ -67,12 +65,6 @@ returns c =
     let t = entriesTree (a .c) (now (a .nodes)) (now (a .entries)) (now (a .text)) in
     let bad = ap not (sym (c .before .entry-holds .ensures)) ∙ c .if1 .taken in
     sym (ap searchOf (l .inv .5 ∙ find-here (λ k. not (entryHolds t k)) (l .e) _ (c .before .before .loop-test .taken) bad))
-
-add-e : tie.Need-add-e Inv-loop μ-loop
-add-e c = omega arith
-
-loop-less : tie.Need-loop-less Inv-loop μ-loop
-loop-less c = omega arith
 
 loop-again : tie.Need-loop-again Inv-loop μ-loop
 loop-again c =
@@ -102,11 +94,10 @@ bad-in-directory-spec =
     μ-loop
     node-first-requires
     node-count-requires
-    add-end
+    (λ c. search needs)
     loop-holds
     entry-holds-requires
     returns
-    add-e
-    loop-less
+    (λ c. search needs) (λ c. search needs)
     loop-again
     returns-2)

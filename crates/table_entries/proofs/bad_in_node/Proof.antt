@@ -34,5 +34,4 @@ returns-2 c =
     c .bad-in-directory .ensures ∙ ap searchOf (directory-bad t (p .0 .directories-hold) (a .n) (p .1) k)
 
 pub bad-in-node-spec : {M : Type 1} → statement M
-bad-in-node-spec =
-    tie.close (tie.spec node-kind-requires returns bad-in-directory-requires returns-2)
+bad-in-node-spec = tie.close (tie.spec node-kind-requires returns bad-in-directory-requires returns-2)

@@ -10,23 +10,11 @@ use Rattle.table_entries.specs.Ranges.{endsEntries}
 use Rattle.table_entries.proofs.ends_entries.Statement.{statement}
 use Rattle.table_entries.proofs.ends_entries.Tie as tie
 
-node-kind-requires : tie.Need-node-kind-requires
-node-kind-requires c κs = search needs
-
 returns : tie.Need-returns
 unfolding endsEntries
 returns c =
     let a = c .before .before .before .args in
     rw (ne-eqb (kindIn (now (a .nodes)) (a .n)) 1 (λ k. c .if1 .taken (c .before .node-kind .ensures .0 ∙ k)))
-
-node-first-requires : tie.Need-node-first-requires
-node-first-requires c κs = search needs
-
-node-count-requires : tie.Need-node-count-requires
-node-count-requires c κs = search needs
-
-add-result : tie.Need-add-result
-add-result c = search needs
 
 returns-2 : tie.Need-returns-2
 unfolding endsEntries
@@ -42,4 +30,8 @@ returns-2 c =
 pub ends-entries-spec : {M : Type 1} → statement M
 ends-entries-spec =
     tie.close
-    (tie.spec node-kind-requires returns node-first-requires node-count-requires add-result returns-2)
+    (tie.spec
+    (λ c κs. search needs)
+    returns
+    (λ c κs. search needs) (λ c κs. search needs) (λ c. search needs)
+    returns-2)

@@ -11,9 +11,6 @@ returns : tie.Need-returns
 unfolding ascendsFrom
 returns c = let a = c .before .before .before .args in rw (le-ltb (a .first) (a .e) (c .if1 .taken))
 
-sub-name : tie.Need-sub-name
-sub-name c = search needs
-
 name-requires : tie.Need-name-requires
 name-requires c κs =
     let n = c .before .before .before .pre .1 (c .if1 .left) in
@@ -23,9 +20,6 @@ name-requires-2 : tie.Need-name-requires-2
 name-requires-2 c κs =
     let n = c .before .before .before .before .pre .0 in
     (n .whole, n .inside)
-
-comes-before-requires : tie.Need-comes-before-requires
-comes-before-requires c κs = search needs
 
 returns-2 : tie.Need-returns-2
 unfolding ascendsFrom
@@ -39,4 +33,10 @@ returns-2 c =
 pub entry-ascends-spec : {M : Type 1} → statement M
 entry-ascends-spec =
     tie.close
-    (tie.spec returns sub-name name-requires name-requires-2 comes-before-requires returns-2)
+    (tie.spec
+    returns
+    (λ c. search needs)
+    name-requires
+    name-requires-2
+    (λ c κs. search needs)
+    returns-2)

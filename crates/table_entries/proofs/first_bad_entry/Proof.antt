@@ -1,4 +1,5 @@
 -- `table_entries::first_bad_entry` meets its contract. Assumes nothing.
+use borrow.Author.Needs.{needs}
 use mathlib.Core.Option.{none}
 use mathlib.Core.Path.{_≡_, ap, sym}
 use denote.Ref.{now}
@@ -24,8 +25,5 @@ sure-records-requires c κs =
 bad-entry-requires : tie.Need-bad-entry-requires
 bad-entry-requires c κs = (c .before .before .before .before .before .before .pre, c .sure-records .ensures)
 
-returns-2 : tie.Need-returns-2
-returns-2 c = c .bad-entry .ensures
-
 pub first-bad-entry-spec : {M : Type 1} → statement M
-first-bad-entry-spec = tie.close (tie.spec returns sure-records-requires bad-entry-requires returns-2)
+first-bad-entry-spec = tie.close (tie.spec returns sure-records-requires bad-entry-requires (λ c. search needs))

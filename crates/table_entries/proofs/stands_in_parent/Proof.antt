@@ -20,18 +20,12 @@ entry-node-requires c κs =
     let t = entriesTree (a .c) (now (a .nodes)) (now (a .entries)) [] in
     omega (arith, held-inside t (p .0 .directories-hold) (a .n) (a .e) (p .1), p .0 .entry-records .whole)
 
-node-kind-requires : tie.Need-node-kind-requires
-node-kind-requires c κs = search needs
-
 returns : tie.Need-returns
 returns c =
     let a = c .before .before .before .before .before .args in
     let t = entriesTree (a .c) (now (a .nodes)) (now (a .entries)) [] in
     let k = c .before .node-kind .ensures .0 ∙ ap (t .kind) (c .before .before .entry-node .ensures .0) in
     sym (other-stands t (a .e) (not-directory t (t .entryNode (a .e)) (λ e. c .if1 .taken (k ∙ e))))
-
-node-parent-requires : tie.Need-node-parent-requires
-node-parent-requires c κs = search needs
 
 returns-2 : tie.Need-returns-2
 returns-2 c =
@@ -61,4 +55,10 @@ returns-3 c =
 pub stands-in-parent-spec : {M : Type 1} → statement M
 stands-in-parent-spec =
     tie.close
-    (tie.spec entry-node-requires node-kind-requires returns node-parent-requires returns-2 returns-3)
+    (tie.spec
+    entry-node-requires
+    (λ c κs. search needs)
+    returns
+    (λ c κs. search needs)
+    returns-2
+    returns-3)

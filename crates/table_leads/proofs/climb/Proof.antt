@@ -1,5 +1,6 @@
 -- `table_leads::climb` meets its contract. The loop's invariant: the node come to is a directory, and the climb from it with the steps
 -- left comes to what the whole climb does. Assumes nothing.
+use borrow.Author.Needs.{needs}
 use Prim.Native.Nat.{ℕ, suc, _-_}
 use mathlib.Core.Bool.{true}
 use mathlib.Core.List.{[]}
@@ -39,12 +40,6 @@ node-parent-requires c κs =
     let loop = c .before .before .loop in
     omega (arith, directory-below (mountsTree (a .c) (now (a .nodes)) []) (pre .1) (loop .k) (loop .inv .0 (a .c) (pre .1) (pre .2)), pre .0 .whole)
 
-sub-left : tie.Need-sub-left Inv-loop μ-loop
-sub-left c = omega arith
-
-loop-less : tie.Need-loop-less Inv-loop μ-loop
-loop-less c = omega arith
-
 loop-again : tie.Need-loop-again Inv-loop μ-loop
 loop-again c =
     let a = c .before .before .before .before .before .args in
@@ -78,8 +73,7 @@ climb-spec =
     loop-holds
     returns
     node-parent-requires
-    sub-left
-    loop-less
+    (λ c. search needs) (λ c. search needs)
     loop-again
     returns-2
     returns-3)

@@ -2,7 +2,7 @@
 -- stops from the start. Assumes nothing.
 use borrow.Author.Needs.{needs}
 use Prim.Native.Nat.{_+_, _-_, _≤_}
-use mathlib.Core.Path.{_≡_, refl, sym, ap, _∙_}
+use mathlib.Core.Path.{_≡_, sym, ap, _∙_}
 use native.Mathlib.Omega.{arith}
 use denote.Ref.{now}
 use Rattle.parts.specs.Parts.{mountsTree}
@@ -18,15 +18,6 @@ Inv-loop nodes mounts c links from end left₀ k₀ left k = (k ≤ end)
 abbrev μ-loop : tie.MeasureT-loop
 μ-loop nodes mounts c links from end left₀ k₀ left k = end - k
 
-mul-left : tie.Need-mul-left Inv-loop μ-loop
-mul-left c = search needs
-
-add-left : tie.Need-add-left Inv-loop μ-loop
-add-left c = search needs
-
-loop-holds : tie.Need-loop-holds Inv-loop μ-loop
-loop-holds c = (omega arith, refl)
-
 steps-left-requires : tie.Need-steps-left-requires Inv-loop μ-loop
 steps-left-requires c κs =
     let p = c .before .before .before .before .before .pre in
@@ -38,12 +29,6 @@ returns c =
     let l = c .before .before .before .loop in
     let t = mountsTree (a .c) (now (a .nodes)) (now (a .mounts)) in
     sym (l .inv .1 ∙ unseen-here (a .links) t (l .k) (a .end) (l .left) (omega arith) (sym (c .before .steps-left .ensures) ∙ c .if1 .taken))
-
-add-k : tie.Need-add-k Inv-loop μ-loop
-add-k c = omega arith
-
-loop-less : tie.Need-loop-less Inv-loop μ-loop
-loop-less c = omega arith
 
 loop-again : tie.Need-loop-again Inv-loop μ-loop
 loop-again c =
@@ -70,12 +55,9 @@ first-unseen-spec =
     (tie.spec
     Inv-loop
     μ-loop
-    mul-left
-    add-left
-    loop-holds
+    (λ c. search needs) (λ c. search needs) (λ c. search needs)
     steps-left-requires
     returns
-    add-k
-    loop-less
+    (λ c. search needs) (λ c. search needs)
     loop-again
     returns-2)

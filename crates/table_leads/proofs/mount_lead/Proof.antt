@@ -1,4 +1,5 @@
 -- `table_leads::mount_lead` meets its contract: each return is a case of the rule, by what was read. Assumes nothing.
+use borrow.Author.Needs.{needs}
 use mathlib.Core.Path.{sym, ap, _∙_}
 use native.Mathlib.Omega.{arith}
 use borrow.Author.Tests.{not-true, not-false}
@@ -12,9 +13,6 @@ use Rattle.table_leads.proofs.mount_lead.Tie as tie
 
 mount-root-requires : tie.Need-mount-root-requires
 mount-root-requires c κs = omega (arith, c .before .before .pre .1 .whole)
-
-is-directory-requires : tie.Need-is-directory-requires
-is-directory-requires c κs = c .before .before .before .pre .0
 
 returns : tie.Need-returns
 unfolding isDirectory
@@ -34,9 +32,6 @@ returns-2 c =
     let t = mountsTree (a .c) (now (a .nodes)) (now (a .mounts)) in
     zero-set t (a .m) (λ e. c .if2 .taken (c .before .mount-zero .ensures .0 ∙ e))
 
-mount-0-lead-requires : tie.Need-mount-0-lead-requires
-mount-0-lead-requires c κs = c .before .before .before .before .before .before .before .before .pre .1
-
 returns-3 : tie.Need-returns-3
 unfolding isDirectory hangsLead
 returns-3 c =
@@ -50,9 +45,6 @@ returns-3 c =
     let t = mountsTree (a .c) (now (a .nodes)) (now (a .mounts)) in
     let d = ap (isDirectory t) (sym (mount-root .ensures .0)) ∙ sym (is-directory .ensures) ∙ not-false _ (if1 .left) in
     c .mount-0-lead .ensures ∙ lead-zeroth t (a .m) d (sym (mount-zero .ensures .0) ∙ if2 .left) (if3 .taken)
-
-point-lead-requires : tie.Need-point-lead-requires
-point-lead-requires c κs = c .before .before .before .before .before .before .before .before .pre
 
 returns-4 : tie.Need-returns-4
 unfolding isDirectory
@@ -73,11 +65,11 @@ mount-lead-spec =
     tie.close
     (tie.spec
     mount-root-requires
-    is-directory-requires
+    (λ c κs. search needs)
     returns
     mount-zero-requires
     returns-2
-    mount-0-lead-requires
+    (λ c κs. search needs)
     returns-3
-    point-lead-requires
+    (λ c κs. search needs)
     returns-4)

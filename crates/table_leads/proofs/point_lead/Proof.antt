@@ -1,4 +1,5 @@
 -- `table_leads::point_lead` meets its contract: each return is a case of the rule, by what was read. Assumes nothing.
+use borrow.Author.Needs.{needs}
 use mathlib.Core.Path.{sym, ap, ap₂, _∙_}
 use native.Mathlib.Omega.{arith}
 use borrow.Author.Tests.{not-true, not-false}
@@ -22,9 +23,6 @@ returns c =
 
 mount-point-requires : tie.Need-mount-point-requires
 mount-point-requires c κs = omega (arith, c .before .before .before .before .pre .1 .whole)
-
-is-directory-requires : tie.Need-is-directory-requires
-is-directory-requires c κs = c .before .before .before .before .before .pre .0
 
 returns-2 : tie.Need-returns-2
 unfolding isDirectory
@@ -70,7 +68,7 @@ point-lead-spec =
     mount-parent-requires
     returns
     mount-point-requires
-    is-directory-requires
+    (λ c κs. search needs)
     returns-2
     mount-root-requires
     returns-3

@@ -18,12 +18,6 @@ lead-of-requires c κs =
     let pre = c .before .before .pre in
     (pre .0, pre .1, pre .3)
 
-enum-told : tie.Need-enum-told
-enum-told c = search needs
-
-enum-known-mount : tie.Need-enum-known-mount
-enum-known-mount c = search needs
-
 mount-root-requires : tie.Need-mount-root-requires
 mount-root-requires c κs =
     let a = c .before .before .before .before .before .before .args in
@@ -44,9 +38,6 @@ climb-requires c κs =
     let t = mountsTree (a .c) (now (a .nodes)) (now (a .mounts)) in
     let led = into-facts t (a .links) (a .k) _ _ (pre .3) (sym (lead-of .ensures) ∙ mount .given .1) in
     (pre .0, directories-hold (a .c) (now (a .nodes)) (now (a .mounts)) [] [] [] [] [] (pre .2), led .1)
-
-enum-told-2 : tie.Need-enum-told-2
-enum-told-2 c = search needs
 
 returns : tie.Need-returns
 unfolding stepsAfter
@@ -78,11 +69,10 @@ steps-left-spec =
     tie.close
     (tie.spec
     lead-of-requires
-    enum-told
-    enum-known-mount
+    (λ c. search needs) (λ c. search needs)
     mount-root-requires
     climb-requires
-    enum-told-2
+    (λ c. search needs)
     returns
     returns-2
     returns-3)

@@ -8,14 +8,8 @@ use Rattle.table_mounts.proofs.ClashLaws.{alone, noted-set, noted-on}
 use Rattle.table_mounts.proofs.clashes.Statement.{statement}
 use Rattle.table_mounts.proofs.clashes.Tie as tie
 
-slot-requires : tie.Need-slot-requires
-slot-requires c κs = c .before .before .pre .0
-
 slice-read-if1 : tie.Need-slice-read-if1
 slice-read-if1 c = omega (arith, c .before .slot .ensures .1, c .before .before .before .before .pre .1 .room)
-
-shares-point-requires : tie.Need-shares-point-requires
-shares-point-requires c κs = c .before .before .before .before .before .pre .0
 
 returns : tie.Need-returns
 returns c =
@@ -27,9 +21,6 @@ returns c =
 
 slice-write-points : tie.Need-slice-write-points
 slice-write-points c = omega (arith, c .before .before .slot .ensures .1, c .before .before .before .before .before .pre .1 .room)
-
-same-length : tie.Need-same-length
-same-length c = search needs
 
 returns-2 : tie.Need-returns-2
 returns-2 c =
@@ -48,10 +39,10 @@ pub clashes-spec : {M : Type 1} → statement M
 clashes-spec =
     tie.close
     (tie.spec
-    slot-requires
+    (λ c κs. search needs)
     slice-read-if1
-    shares-point-requires
+    (λ c κs. search needs)
     returns
     slice-write-points
-    same-length
+    (λ c. search needs)
     returns-2)

@@ -1,4 +1,5 @@
 -- `table_mounts::first_bad_mount` meets its contract. Assumes nothing.
+use borrow.Author.Needs.{needs}
 use mathlib.Core.Bool.{false}
 use mathlib.Core.Path.{sym, ap, _∙_}
 use native.Mathlib.Omega.{arith}
@@ -9,9 +10,6 @@ use Rattle.table_leads.specs.Leads.{brokenFrom}
 use Rattle.table_mounts.proofs.MountLaws.{clash-alike, clash-found, rule-some, rule-none}
 use Rattle.table_mounts.proofs.first_bad_mount.Statement.{statement}
 use Rattle.table_mounts.proofs.first_bad_mount.Tie as tie
-
-first-clash-requires : tie.Need-first-clash-requires
-first-clash-requires c κs = c .before .before .pre .1
 
 first-broken-below-requires : tie.Need-first-broken-below-requires
 first-broken-below-requires c κs =
@@ -45,5 +43,4 @@ returns-2 c =
     sym (ap searchOf (rule-none t (pre .1 .some) (first-broken-below .result) at (omega arith)))
 
 pub first-bad-mount-spec : {M : Type 1} → statement M
-first-bad-mount-spec =
-    tie.close (tie.spec first-clash-requires first-broken-below-requires returns returns-2)
+first-bad-mount-spec = tie.close (tie.spec (λ c κs. search needs) first-broken-below-requires returns returns-2)

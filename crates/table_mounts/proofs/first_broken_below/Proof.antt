@@ -1,4 +1,5 @@
 -- `table_mounts::first_broken_below` meets its contract: where a way stops, all mounts before keep the rule by themselves. Assumes nothing.
+use borrow.Author.Needs.{needs}
 use Prim.Native.Nat.{ℕ, _-_}
 use mathlib.Core.Bool.{false}
 use mathlib.Core.Path.{_≡_, sym, ap, ap₂, _∙_}
@@ -19,9 +20,6 @@ mount-lead-requires c κs =
     let p = c .before .before .pre in
     (p .0, p .1, omega (arith, p .3, p .4))
 
-is-settled-requires : tie.Need-is-settled-requires
-is-settled-requires c κs = tt
-
 returns : tie.Need-returns
 returns c =
     let a = c .before .before .before .before .before .args in
@@ -41,12 +39,6 @@ returns-2 c =
     let t = mountsTree (a .c) (now (a .nodes)) (now (a .mounts)) in
     let one = zeroth-passed t (a .end) (pre .3) (sym (is-settled .ensures ∙ ap settled (mount-lead .ensures)) ∙ not-false _ (if1 .left)) in
     sym (one ∙ broken-done false t 1 (a .end) (omega arith))
-
-lend-requires : tie.Need-lend-requires
-lend-requires c κs = tt
-
-lend-requires-2 : tie.Need-lend-requires-2
-lend-requires-2 c κs = tt
 
 first-unseen-requires : tie.Need-first-unseen-requires
 first-unseen-requires c κs =
@@ -70,12 +62,6 @@ returns-3 c =
     let on = broken-unseen false t (pre .2) (a .end) (pre .4) 1 (budget (a .c)) (pre .3) in
     let whole = ap (λ (k : ℕ). brokenFrom false t k (a .end)) unseen ∙ on ∙ sym one in
     sym (sym whole ∙ broken-done false t (first-unseen .result) (a .end) (omega arith))
-
-lend-requires-3 : tie.Need-lend-requires-3
-lend-requires-3 c κs = tt
-
-lend-requires-4 : tie.Need-lend-requires-4
-lend-requires-4 c κs = tt
 
 first-broken-requires : tie.Need-first-broken-requires
 first-broken-requires c κs =
@@ -108,14 +94,12 @@ first-broken-below-spec =
     tie.close
     (tie.spec
     mount-lead-requires
-    is-settled-requires
+    (λ c κs. search needs)
     returns
     returns-2
-    lend-requires
-    lend-requires-2
+    (λ c κs. search needs) (λ c κs. search needs)
     first-unseen-requires
     returns-3
-    lend-requires-3
-    lend-requires-4
+    (λ c κs. search needs) (λ c κs. search needs)
     first-broken-requires
     returns-4)

@@ -1,4 +1,5 @@
 -- `table_mounts::first_clash_of_few` meets its contract. The loop's invariant: the first clash is the first from here on. Assumes nothing.
+use borrow.Author.Needs.{needs}
 use Prim.Native.Nat.{ℕ, _-_, _≤_}
 use mathlib.Core.Bool.{Bool}
 use mathlib.Core.Path.{_≡_, refl, sym, _∙_}
@@ -37,12 +38,6 @@ returns c =
     let p : ℕ → Bool = λ k. sharesPoint (uncounted s) k in
     sym (l .inv .2 ∙ found-here p (l .m) (a .c .mounts) (omega arith) (sym (c .before .shares-point .ensures) ∙ c .if1 .taken))
 
-add-m : tie.Need-add-m Inv-loop μ-loop
-add-m c = omega arith
-
-loop-less : tie.Need-loop-less Inv-loop μ-loop
-loop-less c = omega arith
-
 loop-again : tie.Need-loop-again Inv-loop μ-loop
 loop-again c =
     let a = c .before .before .before .before .before .args in
@@ -70,7 +65,6 @@ first-clash-of-few-spec =
     loop-holds
     shares-point-requires
     returns
-    add-m
-    loop-less
+    (λ c. search needs) (λ c. search needs)
     loop-again
     returns-2)

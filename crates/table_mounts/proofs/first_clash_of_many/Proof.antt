@@ -1,5 +1,6 @@
 -- `table_mounts::first_clash_of_many` meets its contract. The loop's invariant: the first clash is the first from here on,
 -- and the points of the mounts passed are noted. Assumes nothing.
+use borrow.Author.Needs.{needs}
 use Prim.Native.Nat.{ℕ, _-_, _≤_}
 use mathlib.Core.Bool.{Bool}
 use mathlib.Core.Path.{_≡_, refl, sym, _∙_}
@@ -45,12 +46,6 @@ returns c =
     let p : ℕ → Bool = λ k. sharesPoint (uncounted s) k in
     sym (l .inv .2 ∙ found-here p (l .m) (a .c .mounts) (omega arith) (sym (c .before .before .clashes .ensures .0) ∙ c .if1 .taken))
 
-add-m : tie.Need-add-m Inv-loop μ-loop
-add-m c = omega arith
-
-loop-less : tie.Need-loop-less Inv-loop μ-loop
-loop-less c = omega arith
-
 loop-again : tie.Need-loop-again Inv-loop μ-loop
 loop-again c =
     let a = c .before .before .before .before .before .before .before .args in
@@ -80,7 +75,6 @@ first-clash-of-many-spec =
     slice-aggregate-clashes
     clashes-requires
     returns
-    add-m
-    loop-less
+    (λ c. search needs) (λ c. search needs)
     loop-again
     returns-2)

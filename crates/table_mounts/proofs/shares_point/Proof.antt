@@ -1,4 +1,5 @@
 -- `table_mounts::shares_point` meets its contract. The loop's invariant: an earlier mount shares the point if one from `k` on does. Assumes nothing.
+use borrow.Author.Needs.{needs}
 use Prim.Native.Nat.{_+_, _-_, _*_, _^_, _≤_, _<_}
 use mathlib.Core.Bool.{_&&_}
 use mathlib.Core.Path.{_≡_, refl, ap, _∙_, sym}
@@ -20,9 +21,6 @@ Inv-loop mounts m wanted k₀ k = (1 ≤ k) × (wanted ≡ mountParentIn mounts 
 abbrev μ-loop : tie.MeasureT-loop
 μ-loop mounts m wanted k₀ k = m - k
 
-packed-point-requires : tie.Need-packed-point-requires Inv-loop μ-loop
-packed-point-requires c κs = c .before .pre
-
 loop-holds : tie.Need-loop-holds Inv-loop μ-loop
 unfolding sharesPoint
 loop-holds c =
@@ -41,12 +39,6 @@ returns c =
     let packed = packed-point2 .ensures in
     let same = packed-same _ _ _ _ (packed .1) (l .inv .2) (sym (packed .0) ∙ c .if1 .taken ∙ l .inv .1) in
     sym (l .inv .3 ∙ ap isSome (find-here _ (l .k) (args .m) (test .taken) same))
-
-add-k : tie.Need-add-k Inv-loop μ-loop
-add-k c = omega arith
-
-loop-less : tie.Need-loop-less Inv-loop μ-loop
-loop-less c = omega arith
 
 loop-again : tie.Need-loop-again Inv-loop μ-loop
 loop-again c =
@@ -69,11 +61,10 @@ shares-point-spec =
     (tie.spec
     Inv-loop
     μ-loop
-    packed-point-requires
+    (λ c κs. search needs)
     loop-holds
     packed-point-requires-2
     returns
-    add-k
-    loop-less
+    (λ c. search needs) (λ c. search needs)
     loop-again
     returns-2)

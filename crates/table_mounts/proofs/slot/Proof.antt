@@ -1,4 +1,5 @@
 -- `table_mounts::slot` meets its contract: the point stands above the parent in the number that was read, and 65,536 is a multiple of 1,024. Assumes nothing.
+use borrow.Author.Needs.{needs}
 use Prim.Native.Nat.{ℕ, _+_, _*_, _/_, _%_}
 use mathlib.Core.Path.{_≡_, ap, _∙_}
 use native.Mathlib.Nat.{add-mul-mod-self-left}
@@ -8,9 +9,6 @@ use Rattle.model.specs.Tree.{mountParentIn, mountPointIn}
 use Rattle.table_mounts.specs.Clashes.{slotOf}
 use Rattle.table_mounts.proofs.slot.Statement.{statement}
 use Rattle.table_mounts.proofs.slot.Tie as tie
-
-packed-point-requires : tie.Need-packed-point-requires
-packed-point-requires c κs = c .before .pre
 
 mul-result : tie.Need-mul-result
 mul-result c = omega (arith, c .packed-point .ensures .2)
@@ -33,4 +31,4 @@ returns c =
     (ap (λ (k : ℕ). (k + 4 * r) % 1024) above ∙ rest, omega arith)
 
 pub slot-spec : {M : Type 1} → statement M
-slot-spec = tie.close (tie.spec packed-point-requires mul-result add-result returns)
+slot-spec = tie.close (tie.spec (λ c κs. search needs) mul-result add-result returns)

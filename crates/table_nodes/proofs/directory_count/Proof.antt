@@ -9,9 +9,6 @@ use Rattle.model.specs.TableCheck.{directoryCount}
 use Rattle.table_nodes.proofs.directory_count.Statement.{statement}
 use Rattle.table_nodes.proofs.directory_count.Tie as tie
 
-node-count-requires : tie.Need-node-count-requires
-node-count-requires c κs = search needs
-
 returns : tie.Need-returns
 unfolding directoryCount
 returns c =
@@ -27,4 +24,4 @@ returns-2 c =
     (rw (ne-eqb (kindIn (now (a .nodes)) (a .n)) 1 (λ e. c .if1 .left (c .before .before .pre .2 ∙ e))), omega arith)
 
 pub directory-count-spec : {M : Type 1} → statement M
-directory-count-spec = tie.close (tie.spec node-count-requires returns returns-2)
+directory-count-spec = tie.close (tie.spec (λ c κs. search needs) returns returns-2)

@@ -11,17 +11,11 @@ use Rattle.model.specs.TableCheck.{directoryHolds}
 use Rattle.table_nodes.proofs.directory_holds.Statement.{statement}
 use Rattle.table_nodes.proofs.directory_holds.Tie as tie
 
-node-parent-requires : tie.Need-node-parent-requires
-node-parent-requires c κs = search needs
-
 returns : tie.Need-returns
 unfolding directoryHolds
 returns c =
     let a = c .before .before .before .args in
     simp (lt-leb (parentIn (now (a .nodes)) (a .n)) (a .n) (omega arith), and-false)
-
-node-kind-requires : tie.Need-node-kind-requires
-node-kind-requires c κs = search needs
 
 returns-2 : tie.Need-returns-2
 unfolding directoryHolds isDirectory
@@ -31,9 +25,6 @@ returns-2 c =
     let p = parentIn (now (a .nodes)) (a .n) in
     let k = c .before .node-kind .ensures .0 ∙ ap kind (c .before .before .before .node-parent .ensures .0) in
     simp (ne-eqb (kind p) 1 (λ e. c .if2 .taken (k ∙ e)), and-false)
-
-node-first-requires : tie.Need-node-first-requires
-node-first-requires c κs = search needs
 
 returns-3 : tie.Need-returns-3
 unfolding directoryHolds isDirectory
@@ -49,9 +40,9 @@ pub directory-holds-spec : {M : Type 1} → statement M
 directory-holds-spec =
     tie.close
     (tie.spec
-    node-parent-requires
+    (λ c κs. search needs)
     returns
-    node-kind-requires
+    (λ c κs. search needs)
     returns-2
-    node-first-requires
+    (λ c κs. search needs)
     returns-3)

@@ -11,26 +11,17 @@ use Rattle.model.specs.TableCheck.{fileHolds}
 use Rattle.table_nodes.proofs.file_holds.Statement.{statement}
 use Rattle.table_nodes.proofs.file_holds.Tie as tie
 
-node-parent-requires : tie.Need-node-parent-requires
-node-parent-requires c κs = search needs
-
 returns : tie.Need-returns
 unfolding fileHolds
 returns c =
     let a = c .before .before .before .args in
     simp (ne-eqb (parentIn (now (a .nodes)) (a .n)) 0 (λ e. c .if1 .taken (c .before .node-parent .ensures .0 ∙ e)))
 
-node-first-requires : tie.Need-node-first-requires
-node-first-requires c κs = search needs
-
 returns-2 : tie.Need-returns-2
 unfolding fileHolds
 returns-2 c =
     let a = c .before .before .before .before .before .args in
     simp (ne-eqb (firstIn (now (a .nodes)) (a .n)) 0 (λ e. c .if2 .taken (c .before .node-first .ensures .0 ∙ e)), and-false)
-
-node-count-requires : tie.Need-node-count-requires
-node-count-requires c κs = search needs
 
 returns-3 : tie.Need-returns-3
 unfolding fileHolds
@@ -45,9 +36,9 @@ pub file-holds-spec : {M : Type 1} → statement M
 file-holds-spec =
     tie.close
     (tie.spec
-    node-parent-requires
+    (λ c κs. search needs)
     returns
-    node-first-requires
+    (λ c κs. search needs)
     returns-2
-    node-count-requires
+    (λ c κs. search needs)
     returns-3)

@@ -1,5 +1,6 @@
 -- `table_nodes::first_bad_node` meets its contract. The loop's invariant: the sum is that of the directories passed, and the lowest
 -- failing node is the lowest from `n` on. Assumes nothing.
+use borrow.Author.Needs.{needs}
 use Prim.Native.Nat.{_+_, _-_, _*_, _≤_}
 use mathlib.Core.Bool.{not}
 use mathlib.Core.Option.{some, none}
@@ -34,9 +35,6 @@ loop-holds c =
     let e : args .c .nodes - 0 ≡ args .c .nodes = omega arith in
     (refl, omega arith, refl, omega arith, rw e)
 
-node-kind-requires : tie.Need-node-kind-requires Inv-loop μ-loop
-node-kind-requires c κs = omega arith
-
 node-holds-requires : tie.Need-node-holds-requires Inv-loop μ-loop
 node-holds-requires c κs =
     let pre = c .before .before .before .before .before .before .pre in
@@ -61,15 +59,6 @@ directory-count-requires c κs =
     let pre = c .before .before .before .before .before .before .before .before .pre in
     let node-kind = c .before .before .node-kind in
     (pre, omega arith, node-kind .ensures .0)
-
-add-sum : tie.Need-add-sum Inv-loop μ-loop
-add-sum c = omega arith
-
-add-n : tie.Need-add-n Inv-loop μ-loop
-add-n c = omega arith
-
-loop-less : tie.Need-loop-less Inv-loop μ-loop
-loop-less c = omega arith
 
 loop-again : tie.Need-loop-again Inv-loop μ-loop
 unfolding countsBefore sumBelow directoryCount
@@ -115,13 +104,11 @@ first-bad-node-spec =
     μ-loop
     sure-records-requires
     loop-holds
-    node-kind-requires
+    (λ c κs. search needs)
     node-holds-requires
     returns
     directory-count-requires
-    add-sum
-    add-n
-    loop-less
+    (λ c. search needs) (λ c. search needs) (λ c. search needs)
     loop-again
     returns-2
     returns-3)

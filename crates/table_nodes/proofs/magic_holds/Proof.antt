@@ -7,12 +7,9 @@ use Rattle.model.specs.TableCheck.{magicHolds}
 use Rattle.table_nodes.proofs.magic_holds.Statement.{statement}
 use Rattle.table_nodes.proofs.magic_holds.Tie as tie
 
-node-parent-requires : tie.Need-node-parent-requires
-node-parent-requires c κs = search needs
-
 returns : tie.Need-returns
 unfolding magicHolds
 returns c = ap (λ (x : ℕ). eqb x 0) (c .node-parent .ensures .0)
 
 pub magic-holds-spec : {M : Type 1} → statement M
-magic-holds-spec = tie.close (tie.spec node-parent-requires returns)
+magic-holds-spec = tie.close (tie.spec (λ c κs. search needs) returns)

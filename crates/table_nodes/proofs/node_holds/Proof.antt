@@ -12,14 +12,8 @@ directory-holds-requires : tie.Need-directory-holds-requires
 unfolding countsBefore directoryCount
 directory-holds-requires c κs = let p = c .before .before .before .pre in (p .0, p .1, p .3)
 
-file-holds-requires : tie.Need-file-holds-requires
-file-holds-requires c κs = search needs
-
 symlink-holds-requires : tie.Need-symlink-holds-requires
 symlink-holds-requires c κs = let p = c .before .before .before .pre in (p .0, p .1, sym (p .2) ∙ c .match .keys3, p .4)
-
-magic-holds-requires : tie.Need-magic-holds-requires
-magic-holds-requires c κs = search needs
 
 returns : tie.Need-returns
 unfolding nodeHolds directoryHolds isDirectory countsBefore directoryCount
@@ -52,9 +46,9 @@ node-holds-spec =
     tie.close
     (tie.spec
     directory-holds-requires
-    file-holds-requires
+    (λ c κs. search needs)
     symlink-holds-requires
-    magic-holds-requires
+    (λ c κs. search needs)
     returns
     returns-2
     returns-3

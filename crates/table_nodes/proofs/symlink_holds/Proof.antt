@@ -16,23 +16,11 @@ use Rattle.table_nodes.proofs.BodyLaws.{body-test}
 use Rattle.table_nodes.proofs.symlink_holds.Statement.{statement}
 use Rattle.table_nodes.proofs.symlink_holds.Tie as tie
 
-node-count-requires : tie.Need-node-count-requires
-node-count-requires c κs = search needs
-
-node-parent-requires : tie.Need-node-parent-requires
-node-parent-requires c κs = search needs
-
 returns : tie.Need-returns
 unfolding symlinkHolds
 returns c =
     let a = c .before .before .before .before .before .args in
     simp (ne-eqb (parentIn (now (a .nodes)) (a .n)) 0 (λ e. c .if1 .taken (c .before .node-parent .ensures .0 ∙ e)))
-
-node-first-requires : tie.Need-node-first-requires
-node-first-requires c κs = search needs
-
-add-if2 : tie.Need-add-if2
-add-if2 c = search needs
 
 returns-2 : tie.Need-returns-2
 unfolding symlinkHolds
@@ -64,12 +52,6 @@ returns-5 c =
     let clean = sure-body (now (a .nodes)) (now (a .text)) (a .c .nodes) (a .n) (omega (arith, p .3)) (p .2) (omega arith) in
     sym (body-test t (a .n) top (omega arith) (omega arith) (omega arith) ∙ ap not clean)
 
-body-requires : tie.Need-body-requires
-body-requires c κs = search needs
-
-holds-byte-requires : tie.Need-holds-byte-requires
-holds-byte-requires c κs = search needs
-
 returns-6 : tie.Need-returns-6
 returns-6 c =
     let a = c .before .before .before .before .before .before .before .before .before .before .before .before .args in
@@ -85,15 +67,12 @@ pub symlink-holds-spec : {M : Type 1} → statement M
 symlink-holds-spec =
     tie.close
     (tie.spec
-    node-count-requires
-    node-parent-requires
+    (λ c κs. search needs) (λ c κs. search needs)
     returns
-    node-first-requires
-    add-if2
+    (λ c κs. search needs) (λ c. search needs)
     returns-2
     returns-3
     returns-4
     returns-5
-    body-requires
-    holds-byte-requires
+    (λ c κs. search needs) (λ c κs. search needs)
     returns-6)

@@ -1,4 +1,5 @@
 -- `table_targets::first_bad` meets its contract: where a way stops, all records before keep the rule. Assumes nothing.
+use borrow.Author.Needs.{needs}
 use Prim.Native.Nat.{ℕ, _-_, _≤_}
 use mathlib.Core.Bool.{true}
 use mathlib.Core.Path.{_≡_, sym, ap, ap₂, _∙_}
@@ -13,21 +14,12 @@ use Rattle.table_targets.proofs.TargetLaws.{unsettled-alike, unsettled-
 use Rattle.table_targets.proofs.first_bad.Statement.{statement}
 use Rattle.table_targets.proofs.first_bad.Tie as tie
 
-first-unsettled-requires : tie.Need-first-unsettled-requires
-first-unsettled-requires c κs = c .before .before .pre .0
-
 returns : tie.Need-returns
 returns c =
     let a = c .before .before .before .before .args in
     let t = mountsTree (a .c) (now (a .nodes)) (now (a .mounts)) in
     let unsettled = c .before .first-unsettled .ensures ∙ unsettled-alike (a .c) (now (a .nodes)) (now (a .mounts)) in
     sym (sym (broken-unsettled t) ∙ broken-done true t _ (a .c .nodes) (omega (arith, unsettled)))
-
-lend-requires : tie.Need-lend-requires
-lend-requires c κs = tt
-
-lend-requires-2 : tie.Need-lend-requires-2
-lend-requires-2 c κs = tt
 
 first-unseen-requires : tie.Need-first-unseen-requires
 first-unseen-requires c κs =
@@ -52,12 +44,6 @@ returns-2 c =
     let stop = unseen-stops true t (pre .2) (a .c .nodes) (omega arith) (first-unsettled .result) (budget (a .c)) low in
     let whole = ap (λ (k : ℕ). brokenFrom true t k (a .c .nodes)) unseen ∙ on ∙ ap (λ (k : ℕ). brokenFrom true t k (a .c .nodes)) unsettled ∙ broken-unsettled t in
     sym (sym whole ∙ broken-done true t (first-unseen .result) (a .c .nodes) (omega arith))
-
-lend-requires-3 : tie.Need-lend-requires-3
-lend-requires-3 c κs = tt
-
-lend-requires-4 : tie.Need-lend-requires-4
-lend-requires-4 c κs = tt
 
 first-broken-requires : tie.Need-first-broken-requires
 first-broken-requires c κs =
@@ -90,13 +76,11 @@ pub first-bad-spec : {M : Type 1} → statement M
 first-bad-spec =
     tie.close
     (tie.spec
-    first-unsettled-requires
+    (λ c κs. search needs)
     returns
-    lend-requires
-    lend-requires-2
+    (λ c κs. search needs) (λ c κs. search needs)
     first-unseen-requires
     returns-2
-    lend-requires-3
-    lend-requires-4
+    (λ c κs. search needs) (λ c κs. search needs)
     first-broken-requires
     returns-3)

@@ -1,4 +1,5 @@
 -- `table_targets::first_bad_target` meets its contract. Assumes nothing.
+use borrow.Author.Needs.{needs}
 use mathlib.Core.Path.{sym, ap}
 use native.Mathlib.Omega.{arith}
 use denote.Ref.{now}
@@ -7,9 +8,6 @@ use Rattle.parts.specs.Searches.{searchOf}
 use Rattle.table_targets.proofs.TargetLaws.{rule-some, rule-none}
 use Rattle.table_targets.proofs.first_bad_target.Statement.{statement}
 use Rattle.table_targets.proofs.first_bad_target.Tie as tie
-
-first-bad-requires : tie.Need-first-bad-requires
-first-bad-requires c κs = c .before .before .pre
 
 returns : tie.Need-returns
 returns c =
@@ -24,4 +22,4 @@ returns-2 c =
     sym (ap searchOf (rule-none (mountsTree (a .c) (now (a .nodes)) (now (a .mounts))) (first-bad .result) (first-bad .ensures) (omega arith)))
 
 pub first-bad-target-spec : {M : Type 1} → statement M
-first-bad-target-spec = tie.close (tie.spec first-bad-requires returns returns-2)
+first-bad-target-spec = tie.close (tie.spec (λ c κs. search needs) returns returns-2)

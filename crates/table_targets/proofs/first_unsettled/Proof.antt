@@ -1,4 +1,5 @@
 -- `table_targets::first_unsettled` meets its contract. The loop's invariant: the lowest is the lowest from here on. Assumes nothing.
+use borrow.Author.Needs.{needs}
 use Prim.Native.Nat.{_-_, _≤_}
 use mathlib.Core.Bool.{not}
 use mathlib.Core.List.{[]}
@@ -31,9 +32,6 @@ loop-holds c =
 link-lead-requires : tie.Need-link-lead-requires Inv-loop μ-loop
 link-lead-requires c κs = (c .before .before .before .pre, omega arith)
 
-is-settled-requires : tie.Need-is-settled-requires Inv-loop μ-loop
-is-settled-requires c κs = tt
-
 returns : tie.Need-returns Inv-loop μ-loop
 returns c =
     let a = c .before .before .before .before .before .before .args in
@@ -42,12 +40,6 @@ returns c =
     let link-lead = c .before .before .link-lead in
     let t = mountsTree (a .c) (now (a .nodes)) [] in
     sym (l .inv .2 ∙ found-here (λ k. not (settled (linkLead t k))) (l .n) (a .c .nodes) (omega arith) (sym (ap not (is-settled .ensures ∙ ap settled (link-lead .ensures))) ∙ c .if1 .taken))
-
-add-n : tie.Need-add-n Inv-loop μ-loop
-add-n c = omega arith
-
-loop-less : tie.Need-loop-less Inv-loop μ-loop
-loop-less c = omega arith
 
 loop-again : tie.Need-loop-again Inv-loop μ-loop
 loop-again c =
@@ -75,9 +67,8 @@ first-unsettled-spec =
     μ-loop
     loop-holds
     link-lead-requires
-    is-settled-requires
+    (λ c κs. search needs)
     returns
-    add-n
-    loop-less
+    (λ c. search needs) (λ c. search needs)
     loop-again
     returns-2)

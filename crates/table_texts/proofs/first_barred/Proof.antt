@@ -1,4 +1,5 @@
 -- `table_texts::first_barred` meets its contract, whichever way it goes. Assumes nothing.
+use borrow.Author.Needs.{needs}
 use Prim.Native.Nat.{_*_, _≤_}
 use mathlib.Core.Bool.{Bool}
 use mathlib.Core.Path.{sym, ap, _∙_, subst}
@@ -10,23 +11,11 @@ use Rattle.table_texts.proofs.RecordLaws.{first-clean, seen-clean, mark
 use Rattle.table_texts.proofs.first_barred.Statement.{statement}
 use Rattle.table_texts.proofs.first_barred.Tie as tie
 
-text-clean-requires : tie.Need-text-clean-requires
-text-clean-requires c κs = tt
-
 returns : tie.Need-returns
 returns c =
     let a = c .before .before .before .before .args in
     let clean = seen-clean (a .names) (now (a .text)) (a .count) (sym (c .before .text-clean .ensures) ∙ c .if1 .taken) in
     first-clean (a .names) (now (a .records)) (now (a .text)) (a .count) clean
-
-is-marked-requires : tie.Need-is-marked-requires
-is-marked-requires c κs = c .before .before .before .before .pre
-
-first-read-requires : tie.Need-first-read-requires
-first-read-requires c κs = c .before .before .before .before .before .before .pre .0
-
-returns-2 : tie.Need-returns-2
-returns-2 c = c .first-read .ensures
 
 first-by-marks-requires : tie.Need-first-by-marks-requires
 first-by-marks-requires c κs =
@@ -58,11 +47,9 @@ pub first-barred-spec : {M : Type 1} → statement M
 first-barred-spec =
     tie.close
     (tie.spec
-    text-clean-requires
+    (λ c κs. search needs)
     returns
-    is-marked-requires
-    first-read-requires
-    returns-2
+    (λ c κs. search needs) (λ c κs. search needs) (λ c. search needs)
     first-by-marks-requires
     returns-3
     first-by-marks-requires-2

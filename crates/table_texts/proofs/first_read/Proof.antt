@@ -1,4 +1,5 @@
 -- `table_texts::first_read` meets its contract. The loop's invariant: no record before this one is barred. Assumes nothing.
+use borrow.Author.Needs.{needs}
 use Prim.Native.Nat.{_-_, _≤_}
 use mathlib.Core.Path.{sym, _∙_}
 use native.Mathlib.Omega.{arith}
@@ -31,12 +32,6 @@ returns c =
     let e = sym (c .before .read-barred .ensures) ∙ c .if1 .taken in
     first-hit (a .names) (now (a .records)) (now (a .text)) (a .count) (l .k) (l .inv .1) (omega arith) e
 
-add-k : tie.Need-add-k Inv-loop μ-loop
-add-k c = omega arith
-
-loop-less : tie.Need-loop-less Inv-loop μ-loop
-loop-less c = omega arith
-
 loop-again : tie.Need-loop-again Inv-loop μ-loop
 loop-again c =
     let a = c .before .before .before .before .before .before .args in
@@ -59,7 +54,6 @@ first-read-spec =
     loop-holds
     read-barred-requires
     returns
-    add-k
-    loop-less
+    (λ c. search needs) (λ c. search needs)
     loop-again
     returns-2)

@@ -16,21 +16,12 @@ returns c =
     let a = c .before .before .before .args in
     rw (lt-leb (length (now (a .text))) 65535 (omega arith))
 
-add-if2 : tie.Need-add-if2
-add-if2 c = search needs
-
 returns-2 : tie.Need-returns-2
 unfolding isMarked
 returns-2 c =
     let a = c .before .before .before .before .args in
     let n = length (now (a .text)) in
     rw (le-leb n 65535 (omega arith), lt-ltb (256 + n / 64) (a .count) (omega arith))
-
-add-longer : tie.Need-add-longer
-add-longer c = search needs
-
-longer-requires : tie.Need-longer-requires
-longer-requires c κs = search needs
 
 returns-3 : tie.Need-returns-3
 unfolding isMarked
@@ -40,4 +31,11 @@ returns-3 c =
     c .longer .ensures ∙ rw (le-leb n 65535 (omega arith), le-ltb (256 + n / 64) (a .count) (omega arith))
 
 pub is-marked-spec : {M : Type 1} → statement M
-is-marked-spec = tie.close (tie.spec returns add-if2 returns-2 add-longer longer-requires returns-3)
+is-marked-spec =
+    tie.close
+    (tie.spec
+    returns
+    (λ c. search needs)
+    returns-2
+    (λ c. search needs) (λ c κs. search needs)
+    returns-3)

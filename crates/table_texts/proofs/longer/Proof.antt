@@ -1,4 +1,5 @@
 -- `table_texts::longer` meets its contract. The loop's invariant: the sum is that of the parts before. Assumes nothing.
+use borrow.Author.Needs.{needs}
 use Prim.Native.Nat.{_-_, _*_, _≤_}
 use mathlib.Core.Path.{_≡_, refl, sym}
 use native.Mathlib.Omega.{arith}
@@ -25,9 +26,6 @@ part-length-requires c κs =
     let a = c .before .before .before .args in
     record-fits (a .names) (c .before .loop .k) (a .count) _ (omega arith) (c .before .before .before .pre .0)
 
-add-sum : tie.Need-add-sum Inv-loop μ-loop
-add-sum c = omega arith
-
 returns : tie.Need-returns Inv-loop μ-loop
 returns c =
     let a = c .before .before .before .before .before .args in
@@ -35,12 +33,6 @@ returns c =
     let p = c .before .part-length .ensures .0 in
     let e = sum-next (a .names) (now (a .records)) (l .k) (l .sum) _ (l .inv .3) p in
     sym (longer-here (a .names) (now (a .records)) (a .count) (a .limit) _ _ (omega arith) e (omega arith))
-
-add-k : tie.Need-add-k Inv-loop μ-loop
-add-k c = omega arith
-
-loop-less : tie.Need-loop-less Inv-loop μ-loop
-loop-less c = omega arith
 
 loop-again : tie.Need-loop-again Inv-loop μ-loop
 loop-again c =
@@ -63,9 +55,8 @@ longer-spec =
     μ-loop
     loop-holds
     part-length-requires
-    add-sum
+    (λ c. search needs)
     returns
-    add-k
-    loop-less
+    (λ c. search needs) (λ c. search needs)
     loop-again
     returns-2)

@@ -10,15 +10,6 @@ use Rattle.table_texts.proofs.RecordLaws.{outside, inside}
 use Rattle.table_texts.proofs.marked_barred.Statement.{statement}
 use Rattle.table_texts.proofs.marked_barred.Tie as tie
 
-part-start-requires : tie.Need-part-start-requires
-part-start-requires c κs = search needs
-
-part-length-requires : tie.Need-part-length-requires
-part-length-requires c κs = search needs
-
-add-end : tie.Need-add-end
-add-end c = search needs
-
 returns : tie.Need-returns
 returns c =
     let a = c .before .before .before .before .before .before .before .args in
@@ -42,9 +33,7 @@ pub marked-barred-spec : {M : Type 1} → statement M
 marked-barred-spec =
     tie.close
     (tie.spec
-    part-start-requires
-    part-length-requires
-    add-end
+    (λ c κs. search needs) (λ c κs. search needs) (λ c. search needs)
     returns
     next-barred-requires
     returns-2)

@@ -1,4 +1,5 @@
 -- `table_texts::sure_records` meets its contract. Assumes nothing.
+use borrow.Author.Needs.{needs}
 use Prim.Native.Nat.{_*_, _≤_}
 use mathlib.Core.Bool.{Bool}
 use mathlib.Core.List.{List}
@@ -9,18 +10,9 @@ use Rattle.table_texts.specs.Barred.{recordSize, firstBarred, sureRecord
 use Rattle.table_texts.proofs.sure_records.Statement.{statement}
 use Rattle.table_texts.proofs.sure_records.Tie as tie
 
-few-records-requires : tie.Need-few-records-requires
-few-records-requires c κs = tt
-
 returns : tie.Need-returns
 unfolding sureRecords
 returns c = rw (sym (c .before .few-records .ensures) ∙ c .if1 .taken)
-
-lend-requires : tie.Need-lend-requires
-lend-requires c κs = tt
-
-lend-requires-2 : tie.Need-lend-requires-2
-lend-requires-2 c κs = tt
 
 first-barred-requires : tie.Need-first-barred-requires
 first-barred-requires c κs =
@@ -37,12 +29,6 @@ returns-2 c =
     let lent = ap₂ (λ (r t : List _). firstBarred _ r t (a .count)) (c .before .before .lend .ensures) (c .before .lend2 .ensures) in
     let of-names = ap (λ (b : Bool). firstBarred b (now (a .records)) (now (a .text)) (a .count)) (sym (c .before .before .before .if2 .taken)) in
     c .first-barred .ensures ∙ lent ∙ of-names ∙ sym (rw more)
-
-lend-requires-3 : tie.Need-lend-requires-3
-lend-requires-3 c κs = tt
-
-lend-requires-4 : tie.Need-lend-requires-4
-lend-requires-4 c κs = tt
 
 first-barred-requires-2 : tie.Need-first-barred-requires-2
 first-barred-requires-2 c κs =
@@ -64,13 +50,11 @@ pub sure-records-spec : {M : Type 1} → statement M
 sure-records-spec =
     tie.close
     (tie.spec
-    few-records-requires
+    (λ c κs. search needs)
     returns
-    lend-requires
-    lend-requires-2
+    (λ c κs. search needs) (λ c κs. search needs)
     first-barred-requires
     returns-2
-    lend-requires-3
-    lend-requires-4
+    (λ c κs. search needs) (λ c κs. search needs)
     first-barred-requires-2
     returns-3)

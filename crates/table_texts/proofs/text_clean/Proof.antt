@@ -13,12 +13,6 @@ use Rattle.table_texts.proofs.RecordLaws.{given}
 use Rattle.table_texts.proofs.text_clean.Statement.{statement}
 use Rattle.table_texts.proofs.text_clean.Tie as tie
 
-add-many : tie.Need-add-many
-add-many c = search needs
-
-add-many-2 : tie.Need-add-many-2
-add-many-2 c = search needs
-
 returns : tie.Need-returns
 unfolding seenClean
 returns c =
@@ -26,9 +20,6 @@ returns c =
     let n = length (now (a .text)) in
     let many = given (a .names) (⊎-elim (λ w. inl (w .0 .taken, w .1)) (λ w. inr (w .0 .left, w .1)) (c .before .if1 .came)) in
     rw (lt-leb (cond (a .names) (16 + n / 64) (4 + n / 32)) (a .count) (omega (arith, many)))
-
-holds-barred-requires : tie.Need-holds-barred-requires
-holds-barred-requires c κs = search needs
 
 returns-2 : tie.Need-returns-2
 unfolding seenClean
@@ -39,4 +30,10 @@ returns-2 c =
     ap not (c .holds-barred .ensures) ∙ rw (le-leb (cond (a .names) (16 + n / 64) (4 + n / 32)) (a .count) (omega (arith, many)))
 
 pub text-clean-spec : {M : Type 1} → statement M
-text-clean-spec = tie.close (tie.spec add-many add-many-2 returns holds-barred-requires returns-2)
+text-clean-spec =
+    tie.close
+    (tie.spec
+    (λ c. search needs) (λ c. search needs)
+    returns
+    (λ c κs. search needs)
+    returns-2)

@@ -1,7 +1,8 @@
 -- `table_under::first_failing` meets its contract. The loop's invariant: the lowest record that breaks its rule is none of those passed. Assumes nothing.
+use borrow.Author.Needs.{needs}
 use Prim.Native.Nat.{_-_, _≤_}
 use mathlib.Core.Bool.{not}
-use mathlib.Core.Path.{_≡_, refl, sym, ap, _∙_}
+use mathlib.Core.Path.{_≡_, sym, ap, _∙_}
 use native.Mathlib.Omega.{arith}
 use denote.Ref.{now}
 use Rattle.parts.specs.Parts.{mountsTree}
@@ -17,9 +18,6 @@ Inv-loop nodes mounts c near rows links from end k₀ k = (k ≤ end)
 abbrev μ-loop : tie.MeasureT-loop
 μ-loop nodes mounts c near rows links from end k₀ k = end - k
 
-loop-holds : tie.Need-loop-holds Inv-loop μ-loop
-loop-holds c = (omega arith, refl)
-
 record-keeps-requires : tie.Need-record-keeps-requires Inv-loop μ-loop
 record-keeps-requires c κs =
     let p = c .before .before .before .before .before .before .pre in
@@ -31,12 +29,6 @@ returns c =
     let l = c .before .before .before .loop in
     let t = mountsTree (a .c) (now (a .nodes)) (now (a .mounts)) in
     sym (l .inv .1 ∙ broken-here (a .links) t (l .k) (a .end) (omega arith) (ap not (sym (c .before .record-keeps .ensures)) ∙ c .if1 .taken))
-
-add-k : tie.Need-add-k Inv-loop μ-loop
-add-k c = omega arith
-
-loop-less : tie.Need-loop-less Inv-loop μ-loop
-loop-less c = omega arith
 
 loop-again : tie.Need-loop-again Inv-loop μ-loop
 loop-again c =
@@ -59,10 +51,9 @@ first-failing-spec =
     (tie.spec
     Inv-loop
     μ-loop
-    loop-holds
+    (λ c. search needs)
     record-keeps-requires
     returns
-    add-k
-    loop-less
+    (λ c. search needs) (λ c. search needs)
     loop-again
     returns-2)

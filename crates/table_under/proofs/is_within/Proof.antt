@@ -6,29 +6,8 @@ use borrow.Author.Needs.{needs}
 use Rattle.table_under.proofs.is_within.Statement.{statement}
 use Rattle.table_under.proofs.is_within.Tie as tie
 
-mount-root-requires : tie.Need-mount-root-requires
-mount-root-requires c κs = search needs
-
 returns : tie.Need-returns
 returns c = within-outside _ _ _ (c .before .before .mount-root .ensures .0) (omega arith)
-
-mul-wide : tie.Need-mul-wide
-mul-wide c = search needs
-
-shared-slice-read-wide : tie.Need-shared-slice-read-wide
-shared-slice-read-wide c = search needs
-
-wide-requires : tie.Need-wide-requires
-wide-requires c κs = search needs
-
-mul-wide-2 : tie.Need-mul-wide-2
-mul-wide-2 c = search needs
-
-shared-slice-read-wide-2 : tie.Need-shared-slice-read-wide-2
-shared-slice-read-wide-2 c = search needs
-
-wide-requires-2 : tie.Need-wide-requires-2
-wide-requires-2 c κs = search needs
 
 sub-has-bit : tie.Need-sub-has-bit
 sub-has-bit c =
@@ -56,14 +35,10 @@ pub is-within-spec : {M : Type 1} → statement M
 is-within-spec =
     tie.close
     (tie.spec
-    mount-root-requires
+    (λ c κs. search needs)
     returns
-    mul-wide
-    shared-slice-read-wide
-    wide-requires
-    mul-wide-2
-    shared-slice-read-wide-2
-    wide-requires-2
+    (λ c. search needs) (λ c. search needs) (λ c κs. search needs) (λ c. search needs) (λ c. search needs)
+    (λ c κs. search needs)
     sub-has-bit
     has-bit-requires
     returns-2)

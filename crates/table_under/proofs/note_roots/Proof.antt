@@ -1,4 +1,5 @@
 -- `table_under::note_roots` meets its contract. The loop's invariant: the roots of the mounts passed are noted. Assumes nothing.
+use borrow.Author.Needs.{needs}
 use Prim.Native.Nat.{ℕ, _-_, _≤_}
 use mathlib.Core.Path.{_≡_, refl, subst, _∙_}
 use denote.Ref.{now}
@@ -21,20 +22,11 @@ loop-holds c = (omega arith, c .before .before .pre .1, refl)
 note-root-requires : tie.Need-note-root-requires Inv-loop μ-loop
 note-root-requires c κs = (c .before .before .before .before .before .pre .0, omega arith, c .before .before .loop .inv .1)
 
-add-m : tie.Need-add-m Inv-loop μ-loop
-add-m c = omega arith
-
-loop-less : tie.Need-loop-less Inv-loop μ-loop
-loop-less c = omega arith
-
 loop-again : tie.Need-loop-again Inv-loop μ-loop
 loop-again c =
     let l = c .before .before .before .before .before .loop in
     let note-root = c .before .before .note-root in
     (omega arith, note-root .ensures, note-root .kept .1 .1 .0 ∙ l .inv .2)
-
-same-length : tie.Need-same-length Inv-loop μ-loop
-same-length c = c .before .loop .inv .2
 
 returns : tie.Need-returns Inv-loop μ-loop
 returns c =
@@ -50,8 +42,7 @@ note-roots-spec =
     μ-loop
     loop-holds
     note-root-requires
-    add-m
-    loop-less
+    (λ c. search needs) (λ c. search needs)
     loop-again
-    same-length
+    (λ c. search needs)
     returns)

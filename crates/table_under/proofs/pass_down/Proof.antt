@@ -1,4 +1,5 @@
 -- `table_under::pass_down` meets its contract. The loop's invariant: what the lists have is what passing the nodes so far leaves. Assumes nothing.
+use borrow.Author.Needs.{needs}
 use Prim.Native.Nat.{ℕ, _-_, _≤_}
 use mathlib.Core.Path.{_≡_, refl, sym, ap, subst, _∙_}
 use native.Mathlib.Omega.{arith}
@@ -27,12 +28,6 @@ pass-to-requires c κs =
     let l = c .before .before .before .loop in
     (omega (arith, p .0 .whole), omega (arith, p .1, l .inv .3), l .inv .1)
 
-add-n : tie.Need-add-n Inv-loop μ-loop
-add-n c = omega arith
-
-loop-less : tie.Need-loop-less Inv-loop μ-loop
-loop-less c = omega arith
-
 loop-again : tie.Need-loop-again Inv-loop μ-loop
 loop-again c =
     let a = c .before .before .before .before .before .before .before .before .before .before .before .before .args in
@@ -46,12 +41,6 @@ loop-again c =
       pass-to .kept .1 .0 ∙ l .inv .3,
       pass-to .kept .1 .1 .0 ∙ l .inv .4,
     )
-
-same-length : tie.Need-same-length Inv-loop μ-loop
-same-length c = c .before .loop .inv .3
-
-same-length-2 : tie.Need-same-length-2 Inv-loop μ-loop
-same-length-2 c = c .before .loop .inv .4
 
 returns : tie.Need-returns Inv-loop μ-loop
 returns c =
@@ -67,9 +56,7 @@ pass-down-spec =
     μ-loop
     loop-holds
     pass-to-requires
-    add-n
-    loop-less
+    (λ c. search needs) (λ c. search needs)
     loop-again
-    same-length
-    same-length-2
+    (λ c. search needs) (λ c. search needs)
     returns)

@@ -9,15 +9,6 @@ use borrow.Author.Needs.{needs}
 use Rattle.table_under.proofs.record_keeps.Statement.{statement}
 use Rattle.table_under.proofs.record_keeps.Tie as tie
 
-lead-of-requires : tie.Need-lead-of-requires
-lead-of-requires c κs = search needs
-
-enum-told : tie.Need-enum-told
-enum-told c = search needs
-
-enum-known-mount : tie.Need-enum-known-mount
-enum-known-mount c = search needs
-
 is-within-requires : tie.Need-is-within-requires
 is-within-requires c κs =
     let a = c .before .before .before .before .before .before .before .before .args in
@@ -26,9 +17,6 @@ is-within-requires c κs =
     let t = mountsTree (a .c) (now (a .nodes)) (now (a .mounts)) in
     let l = led t s (a .links) (a .k) (p .2) (p .3) (sym (c .before .before .before .lead-of .ensures) ∙ c .before .mount .given .1) in
     (p .1, p .2 .numbered, l .mount-below, l .node-below)
-
-enum-told-2 : tie.Need-enum-told-2
-enum-told-2 c = search needs
 
 returns : tie.Need-returns
 returns c =
@@ -53,11 +41,9 @@ pub record-keeps-spec : {M : Type 1} → statement M
 record-keeps-spec =
     tie.close
     (tie.spec
-    lead-of-requires
-    enum-told
-    enum-known-mount
+    (λ c κs. search needs) (λ c. search needs) (λ c. search needs)
     is-within-requires
-    enum-told-2
+    (λ c. search needs)
     returns
     returns-2
     returns-3)

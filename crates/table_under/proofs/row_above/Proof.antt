@@ -5,15 +5,6 @@ use borrow.Author.Needs.{needs}
 use Rattle.table_under.proofs.row_above.Statement.{statement}
 use Rattle.table_under.proofs.row_above.Tie as tie
 
-node-parent-requires : tie.Need-node-parent-requires
-node-parent-requires c κs = search needs
-
-mul-result : tie.Need-mul-result
-mul-result c = search needs
-
-shared-slice-read-result : tie.Need-shared-slice-read-result
-shared-slice-read-result c = search needs
-
 returns : tie.Need-returns
 returns c = above-parent _ _ _ (c .before .before .node-parent .ensures .0) (omega arith)
 
@@ -21,5 +12,4 @@ returns-2 : tie.Need-returns-2
 returns-2 c = above-top _ _ _ (c .before .node-parent .ensures .0) (omega arith)
 
 pub row-above-spec : {M : Type 1} → statement M
-row-above-spec =
-    tie.close (tie.spec node-parent-requires mul-result shared-slice-read-result returns returns-2)
+row-above-spec = tie.close (tie.spec (λ c κs. search needs) (λ c. search needs) (λ c. search needs) returns returns-2)

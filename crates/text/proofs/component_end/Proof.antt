@@ -1,8 +1,8 @@
 -- `text::component_end` meets its contract. The loop's invariant: the component at `at` ends where the bytes from `end` on have
 -- their first slash. Assumes nothing.
+use borrow.Author.Needs.{needs}
 use Prim.Native.Nat.{_-_}
-use mathlib.Core.Path.{_≡_, refl, _∙_, sym}
-use native.Mathlib.Omega.{arith}
+use mathlib.Core.Path.{_≡_, _∙_, sym}
 use lib.ListN.{length}
 use denote.Ref.{now}
 use Rattle.text.specs.Positions.{componentEnd}
@@ -16,24 +16,12 @@ Inv-loop s at end₀ end = componentEnd s at ≡ componentEnd s end
 abbrev μ-loop : tie.MeasureT-loop
 μ-loop s at end₀ end = length s - end
 
-loop-holds : tie.Need-loop-holds Inv-loop μ-loop
-loop-holds c = refl
-
-shared-slice-read-if1 : tie.Need-shared-slice-read-if1 Inv-loop μ-loop
-shared-slice-read-if1 c = omega arith
-
 returns : tie.Need-returns Inv-loop μ-loop
 returns c =
     let args = c .before .before .before .before .args in
     let loop = c .before .before .before .loop in
     let loop-test = c .before .before .loop-test in
     sym (loop .inv ∙ end-here (now (args .s)) (loop .end) (loop-test .taken) (c .if1 .taken))
-
-add-end : tie.Need-add-end Inv-loop μ-loop
-add-end c = omega arith
-
-loop-less : tie.Need-loop-less Inv-loop μ-loop
-loop-less c = omega arith
 
 loop-again : tie.Need-loop-again Inv-loop μ-loop
 loop-again c =
@@ -53,10 +41,8 @@ component-end-spec =
     (tie.spec
     Inv-loop
     μ-loop
-    loop-holds
-    shared-slice-read-if1
+    (λ c. search needs) (λ c. search needs)
     returns
-    add-end
-    loop-less
+    (λ c. search needs) (λ c. search needs)
     loop-again
     returns-2)

@@ -1,4 +1,5 @@
 -- `text::is_absolute` meets its contract. Assumes nothing.
+use borrow.Author.Needs.{needs}
 use mathlib.Core.Path.{sym}
 use native.Mathlib.Omega.{arith}
 use denote.Ref.{now}
@@ -9,11 +10,8 @@ use Rattle.text.proofs.is_absolute.Tie as tie
 returns : tie.Need-returns
 returns c = sym (empty-absolute (now (c .before .args .s)) (c .if1 .taken))
 
-shared-slice-read-result : tie.Need-shared-slice-read-result
-shared-slice-read-result c = omega arith
-
 returns-2 : tie.Need-returns-2
 returns-2 c = sym (first-absolute (now (c .before .before .args .s)) (omega arith))
 
 pub is-absolute-spec : {M : Type 1} → statement M
-is-absolute-spec = tie.close (tie.spec returns shared-slice-read-result returns-2)
+is-absolute-spec = tie.close (tie.spec returns (λ c. search needs) returns-2)

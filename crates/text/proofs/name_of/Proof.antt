@@ -12,12 +12,6 @@ text-of-requires c κs =
     let pre = c .before .before .pre in
     (pre .0, pre .1)
 
-sub-result : tie.Need-sub-result
-sub-result c = search needs
-
-part-result-start : tie.Need-part-result-start
-part-result-start c = search needs
-
 part-result-end : tie.Need-part-result-end
 part-result-end c = omega (arith, ap length (c .text-of .ensures), c .before .before .before .pre .3)
 
@@ -28,4 +22,4 @@ returns c =
     ap (λ s. between s (args .at) (args .end)) (text-of .ensures)
 
 pub name-of-spec : {M : Type 1} → statement M
-name-of-spec = tie.close (tie.spec text-of-requires sub-result part-result-start part-result-end returns)
+name-of-spec = tie.close (tie.spec text-of-requires (λ c. search needs) (λ c. search needs) part-result-end returns)

@@ -1,7 +1,7 @@
 -- `text::skip_slashes` meets its contract. The loop's invariant: past the slashes at `at` is past those at `next`. Assumes nothing.
+use borrow.Author.Needs.{needs}
 use Prim.Native.Nat.{_-_}
-use mathlib.Core.Path.{_≡_, refl, _∙_, sym}
-use native.Mathlib.Omega.{arith}
+use mathlib.Core.Path.{_≡_, _∙_, sym}
 use lib.ListN.{length}
 use denote.Ref.{now}
 use Rattle.text.specs.Positions.{pastSlashes}
@@ -15,24 +15,12 @@ Inv-loop s at next₀ next = pastSlashes s at ≡ pastSlashes s next
 abbrev μ-loop : tie.MeasureT-loop
 μ-loop s at next₀ next = length s - next
 
-loop-holds : tie.Need-loop-holds Inv-loop μ-loop
-loop-holds c = refl
-
-shared-slice-read-if1 : tie.Need-shared-slice-read-if1 Inv-loop μ-loop
-shared-slice-read-if1 c = omega arith
-
 returns : tie.Need-returns Inv-loop μ-loop
 returns c =
     let args = c .before .before .before .before .args in
     let loop = c .before .before .before .loop in
     let loop-test = c .before .before .loop-test in
     sym (loop .inv ∙ past-here (now (args .s)) (loop .next) (loop-test .taken) (c .if1 .taken))
-
-add-next : tie.Need-add-next Inv-loop μ-loop
-add-next c = omega arith
-
-loop-less : tie.Need-loop-less Inv-loop μ-loop
-loop-less c = omega arith
 
 loop-again : tie.Need-loop-again Inv-loop μ-loop
 loop-again c =
@@ -52,10 +40,8 @@ skip-slashes-spec =
     (tie.spec
     Inv-loop
     μ-loop
-    loop-holds
-    shared-slice-read-if1
+    (λ c. search needs) (λ c. search needs)
     returns
-    add-next
-    loop-less
+    (λ c. search needs) (λ c. search needs)
     loop-again
     returns-2)

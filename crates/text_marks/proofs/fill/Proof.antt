@@ -18,46 +18,10 @@ Inv-loop text names marks₀ behind₀ b₀ next₀ marks behind b next = (b ≤
 abbrev μ-loop : tie.MeasureT-loop
 μ-loop text names marks₀ behind₀ b₀ next₀ marks behind b next = b
 
-add-b : tie.Need-add-b Inv-loop μ-loop
-add-b c = search needs
-
 loop-holds : tie.Need-loop-holds Inv-loop μ-loop
 loop-holds c =
     let a = c .before .before .before .args in
     (omega arith, next-none (a .names) (now (a .text)), marked-none (a .names) (now (a .text)) _ _, refl, refl, omega arith)
-
-sub-b : tie.Need-sub-b Inv-loop μ-loop
-sub-b c = search needs
-
-cast-behind : tie.Need-cast-behind Inv-loop μ-loop
-cast-behind c = omega arith
-
-mul-behind : tie.Need-mul-behind Inv-loop μ-loop
-mul-behind c = omega arith
-
-slice-write-behind : tie.Need-slice-write-behind Inv-loop μ-loop
-slice-write-behind c = omega arith
-
-mul-block-marks : tie.Need-mul-block-marks Inv-loop μ-loop
-mul-block-marks c = omega arith
-
-block-marks-requires : tie.Need-block-marks-requires Inv-loop μ-loop
-block-marks-requires c κs = (omega arith, omega arith)
-
-mul-marks : tie.Need-mul-marks Inv-loop μ-loop
-mul-marks c = omega arith
-
-slice-write-marks : tie.Need-slice-write-marks Inv-loop μ-loop
-slice-write-marks c = omega arith
-
-mul-first-of : tie.Need-mul-first-of Inv-loop μ-loop
-mul-first-of c = omega arith
-
-first-of-requires : tie.Need-first-of-requires Inv-loop μ-loop
-first-of-requires c κs = omega arith
-
-loop-less : tie.Need-loop-less Inv-loop μ-loop
-loop-less c = omega arith
 
 loop-again : tie.Need-loop-again Inv-loop μ-loop
 loop-again c =
@@ -76,12 +40,6 @@ loop-again c =
       omega (arith, first, first-found (a .names) t start (length t) (omega arith) .below),
     )
 
-same-length : tie.Need-same-length Inv-loop μ-loop
-same-length c = c .before .loop .inv .3
-
-same-length-2 : tie.Need-same-length-2 Inv-loop μ-loop
-same-length-2 c = c .before .loop .inv .4
-
 returns : tie.Need-returns Inv-loop μ-loop
 returns c =
     let a = c .before .before .before .before .before .args in
@@ -97,20 +55,11 @@ fill-spec =
     (tie.spec
     Inv-loop
     μ-loop
-    add-b
+    (λ c. search needs)
     loop-holds
-    sub-b
-    cast-behind
-    mul-behind
-    slice-write-behind
-    mul-block-marks
-    block-marks-requires
-    mul-marks
-    slice-write-marks
-    mul-first-of
-    first-of-requires
-    loop-less
+    (λ c. search needs) (λ c. search needs) (λ c. search needs) (λ c. search needs) (λ c. search needs)
+    (λ c κs. search needs) (λ c. search needs) (λ c. search needs) (λ c. search needs) (λ c κs. search needs)
+    (λ c. search needs)
     loop-again
-    same-length
-    same-length-2
+    (λ c. search needs) (λ c. search needs)
     returns)

@@ -1,33 +1,12 @@
 -- `text_marks::next_barred` meets its contract. Assumes nothing.
 use borrow.Author.Needs.{needs}
 use Prim.Native.Nat.{ℕ, _/_, _%_, _^_}
-use mathlib.Core.Path.{_≡_, refl, ap, _∙_}
+use mathlib.Core.Path.{refl, ap, _∙_}
 use native.Mathlib.Omega.{arith}
 use denote.Ref.{now}
 use Rattle.text_marks.proofs.MarkLaws.{first-in-block}
 use Rattle.text_marks.proofs.next_barred.Statement.{statement}
 use Rattle.text_marks.proofs.next_barred.Tie as tie
-
-mul-first-of : tie.Need-mul-first-of
-mul-first-of c = search needs
-
-shared-slice-read-first-of : tie.Need-shared-slice-read-first-of
-shared-slice-read-first-of c = search needs
-
-shr-first-of : tie.Need-shr-first-of
-shr-first-of c = search needs
-
-mul-wide : tie.Need-mul-wide
-mul-wide c = search needs
-
-shared-slice-read-wide : tie.Need-shared-slice-read-wide
-shared-slice-read-wide c = search needs
-
-wide-requires : tie.Need-wide-requires
-wide-requires c κs = search needs
-
-first-of-requires : tie.Need-first-of-requires
-first-of-requires c κs = search needs
 
 returns : tie.Need-returns
 returns c =
@@ -43,11 +22,6 @@ pub next-barred-spec : {M : Type 1} → statement M
 next-barred-spec =
     tie.close
     (tie.spec
-    mul-first-of
-    shared-slice-read-first-of
-    shr-first-of
-    mul-wide
-    shared-slice-read-wide
-    wide-requires
-    first-of-requires
+    (λ c. search needs) (λ c. search needs) (λ c. search needs) (λ c. search needs) (λ c. search needs)
+    (λ c κs. search needs) (λ c κs. search needs)
     returns)

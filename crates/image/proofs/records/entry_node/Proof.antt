@@ -1,4 +1,5 @@
 -- `image::records::entry_node` meets its contract. Assumes nothing.
+use borrow.Author.Needs.{needs}
 use Prim.Native.Nat.{_+_, _*_}
 use mathlib.Core.Path.{_∙_}
 use native.Mathlib.Omega.{arith}
@@ -8,9 +9,6 @@ use Rattle.model.specs.Tree.{sizesOf, entriesAt, entriesPart, treeOf}
 use Rattle.laws.proofs.PartLaws.{part-column}
 use Rattle.image.proofs.records.entry_node.Statement.{statement}
 use Rattle.image.proofs.records.entry_node.Tie as tie
-
-entry-at-requires : tie.Need-entry-at-requires
-entry-at-requires c κs = c .before .pre
 
 add-u16-at : tie.Need-add-u16-at
 add-u16-at c = omega (arith, c .entry-at .ensures .1)
@@ -27,4 +25,4 @@ returns c =
     (c .u16-at .ensures .0 ∙ part-column 2 s (entriesAt (sizesOf s)) _ (8 * a .e + 6) _ (omega arith) (omega (arith, at)), c .u16-at .ensures .1)
 
 pub entry-node-spec : {M : Type 1} → statement M
-entry-node-spec = tie.close (tie.spec entry-at-requires add-u16-at u16-at-requires returns)
+entry-node-spec = tie.close (tie.spec (λ c κs. search needs) add-u16-at u16-at-requires returns)

@@ -5,21 +5,13 @@ use Rattle.model.specs.Tree.{sizesOf, treeOf}
 use Rattle.image.proofs.records.mount_at.Statement.{statement}
 use Rattle.image.proofs.records.mount_at.Tie as tie
 
-mul-result : tie.Need-mul-result
-mul-result c = search needs
-
-add-result : tie.Need-add-result
-add-result c = search needs
-
-mul-result-2 : tie.Need-mul-result-2
-mul-result-2 c = search needs
-
-add-result-2 : tie.Need-add-result-2
-add-result-2 c = search needs
-
 returns : tie.Need-returns
 unfolding treeOf sizesOf
 returns c = omega arith
 
 pub mount-at-spec : {M : Type 1} → statement M
-mount-at-spec = tie.close (tie.spec mul-result add-result mul-result-2 add-result-2 returns)
+mount-at-spec =
+    tie.close
+    (tie.spec
+    (λ c. search needs) (λ c. search needs) (λ c. search needs) (λ c. search needs)
+    returns)

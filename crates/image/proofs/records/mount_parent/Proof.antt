@@ -1,4 +1,5 @@
 -- `image::records::mount_parent` meets its contract. Assumes nothing.
+use borrow.Author.Needs.{needs}
 use Prim.Native.Nat.{_+_, _*_}
 use mathlib.Core.Path.{_∙_}
 use native.Mathlib.Omega.{arith}
@@ -8,9 +9,6 @@ use Rattle.model.specs.Tree.{sizesOf, mountsAt, mountsPart, treeOf}
 use Rattle.laws.proofs.PartLaws.{part-column}
 use Rattle.image.proofs.records.mount_parent.Statement.{statement}
 use Rattle.image.proofs.records.mount_parent.Tie as tie
-
-mount-at-requires : tie.Need-mount-at-requires
-mount-at-requires c κs = c .before .pre
 
 add-u16-at : tie.Need-add-u16-at
 add-u16-at c = omega (arith, c .mount-at .ensures .1)
@@ -27,4 +25,4 @@ returns c =
     (c .u16-at .ensures .0 ∙ part-column 2 s (mountsAt (sizesOf s)) _ (8 * a .m + 2) _ (omega arith) (omega (arith, at)), c .u16-at .ensures .1)
 
 pub mount-parent-spec : {M : Type 1} → statement M
-mount-parent-spec = tie.close (tie.spec mount-at-requires add-u16-at u16-at-requires returns)
+mount-parent-spec = tie.close (tie.spec (λ c κs. search needs) add-u16-at u16-at-requires returns)

@@ -1,4 +1,5 @@
 -- `image::records::node_kind` meets its contract. Assumes nothing.
+use borrow.Author.Needs.{needs}
 use Prim.Native.Nat.{_*_}
 use mathlib.Core.Path.{_∙_}
 use native.Mathlib.Omega.{arith}
@@ -7,9 +8,6 @@ use Rattle.model.specs.Tree.{nodesPart, treeOf}
 use Rattle.laws.proofs.PartLaws.{part-column}
 use Rattle.image.proofs.records.node_kind.Statement.{statement}
 use Rattle.image.proofs.records.node_kind.Tie as tie
-
-node-at-requires : tie.Need-node-at-requires
-node-at-requires c κs = c .before .pre
 
 u16-at-requires : tie.Need-u16-at-requires
 u16-at-requires c κs = omega (arith, c .node-at .ensures .1)
@@ -23,4 +21,4 @@ returns c =
     (c .u16-at .ensures .0 ∙ part-column 2 s 20 _ (12 * a .n) _ (omega arith) (omega (arith, at)), c .u16-at .ensures .1)
 
 pub node-kind-spec : {M : Type 1} → statement M
-node-kind-spec = tie.close (tie.spec node-at-requires u16-at-requires returns)
+node-kind-spec = tie.close (tie.spec (λ c κs. search needs) u16-at-requires returns)

@@ -1,4 +1,5 @@
 -- `image::records::node_parent` meets its contract. Assumes nothing.
+use borrow.Author.Needs.{needs}
 use Prim.Native.Nat.{_+_, _*_}
 use mathlib.Core.Path.{_∙_}
 use native.Mathlib.Omega.{arith}
@@ -8,9 +9,6 @@ use Rattle.model.specs.Tree.{nodesPart, treeOf}
 use Rattle.laws.proofs.PartLaws.{part-column}
 use Rattle.image.proofs.records.node_parent.Statement.{statement}
 use Rattle.image.proofs.records.node_parent.Tie as tie
-
-node-at-requires : tie.Need-node-at-requires
-node-at-requires c κs = c .before .pre
 
 add-u16-at : tie.Need-add-u16-at
 add-u16-at c = omega (arith, c .node-at .ensures .1)
@@ -27,4 +25,4 @@ returns c =
     (c .u16-at .ensures .0 ∙ part-column 2 s 20 _ (12 * a .n + 2) _ (omega arith) (omega (arith, at)), c .u16-at .ensures .1)
 
 pub node-parent-spec : {M : Type 1} → statement M
-node-parent-spec = tie.close (tie.spec node-at-requires add-u16-at u16-at-requires returns)
+node-parent-spec = tie.close (tie.spec (λ c κs. search needs) add-u16-at u16-at-requires returns)

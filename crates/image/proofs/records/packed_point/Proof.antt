@@ -10,15 +10,6 @@ use Rattle.laws.proofs.PartLaws.{part-column}
 use Rattle.image.proofs.records.packed_point.Statement.{statement}
 use Rattle.image.proofs.records.packed_point.Tie as tie
 
-mount-at-requires : tie.Need-mount-at-requires
-mount-at-requires c κs = search needs
-
-add-u32-at : tie.Need-add-u32-at
-add-u32-at c = search needs
-
-u32-at-requires : tie.Need-u32-at-requires
-u32-at-requires c κs = search needs
-
 returns : tie.Need-returns
 unfolding treeOf mountsPart
 returns c =
@@ -34,4 +25,4 @@ returns c =
     (both ∙ field-pair (mountsPart (sizesOf s) s) (8 * a .m) (8 * a .m) refl, omega (arith, parent, small))
 
 pub packed-point-spec : {M : Type 1} → statement M
-packed-point-spec = tie.close (tie.spec mount-at-requires add-u32-at u32-at-requires returns)
+packed-point-spec = tie.close (tie.spec (λ c κs. search needs) (λ c. search needs) (λ c κs. search needs) returns)

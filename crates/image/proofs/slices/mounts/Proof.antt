@@ -9,27 +9,6 @@ use Rattle.laws.proofs.StringLaws.{part-between}
 use Rattle.image.proofs.slices.mounts.Statement.{statement}
 use Rattle.image.proofs.slices.mounts.Tie as tie
 
-mul-start : tie.Need-mul-start
-mul-start c = search needs
-
-add-start : tie.Need-add-start
-add-start c = search needs
-
-mul-end : tie.Need-mul-end
-mul-end c = search needs
-
-add-end : tie.Need-add-end
-add-end c = search needs
-
-sub-result : tie.Need-sub-result
-sub-result c = search needs
-
-part-result-start : tie.Need-part-result-start
-part-result-start c = search needs
-
-part-result-end : tie.Need-part-result-end
-part-result-end c = search needs
-
 returns : tie.Need-returns
 unfolding mountsPart treeOf
 returns c =
@@ -45,11 +24,6 @@ pub mounts-spec : {M : Type 1} → statement M
 mounts-spec =
     tie.close
     (tie.spec
-    mul-start
-    add-start
-    mul-end
-    add-end
-    sub-result
-    part-result-start
-    part-result-end
+    (λ c. search needs) (λ c. search needs) (λ c. search needs) (λ c. search needs) (λ c. search needs)
+    (λ c. search needs) (λ c. search needs)
     returns)

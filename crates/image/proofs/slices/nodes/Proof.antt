@@ -9,21 +9,6 @@ use Rattle.laws.proofs.StringLaws.{part-between}
 use Rattle.image.proofs.slices.nodes.Statement.{statement}
 use Rattle.image.proofs.slices.nodes.Tie as tie
 
-u16-at-requires : tie.Need-u16-at-requires
-u16-at-requires c κs = search needs
-
-mul-end : tie.Need-mul-end
-mul-end c = search needs
-
-add-end : tie.Need-add-end
-add-end c = search needs
-
-sub-result : tie.Need-sub-result
-sub-result c = search needs
-
-part-result-start : tie.Need-part-result-start
-part-result-start c = search needs
-
 part-result-end : tie.Need-part-result-end
 unfolding treeOf sizesOf
 part-result-end c =
@@ -44,4 +29,7 @@ returns c =
 pub nodes-spec : {M : Type 1} → statement M
 nodes-spec =
     tie.close
-    (tie.spec u16-at-requires mul-end add-end sub-result part-result-start part-result-end returns)
+    (tie.spec
+    (λ c κs. search needs) (λ c. search needs) (λ c. search needs) (λ c. search needs) (λ c. search needs)
+    part-result-end
+    returns)

@@ -9,18 +9,6 @@ use Rattle.laws.proofs.StringLaws.{part-between}
 use Rattle.image.proofs.slices.text.Statement.{statement}
 use Rattle.image.proofs.slices.text.Tie as tie
 
-text-at-requires : tie.Need-text-at-requires
-text-at-requires c κs = search needs
-
-sub-result : tie.Need-sub-result
-sub-result c = search needs
-
-part-result-start : tie.Need-part-result-start
-part-result-start c = search needs
-
-part-result-end : tie.Need-part-result-end
-part-result-end c = search needs
-
 returns : tie.Need-returns
 unfolding textPart treeOf
 returns c =
@@ -33,4 +21,7 @@ returns c =
 
 pub text-spec : {M : Type 1} → statement M
 text-spec =
-    tie.close (tie.spec text-at-requires sub-result part-result-start part-result-end returns)
+    tie.close
+    (tie.spec
+    (λ c κs. search needs) (λ c. search needs) (λ c. search needs) (λ c. search needs)
+    returns)

@@ -8,15 +8,6 @@ use borrow.Author.Needs.{needs}
 use Rattle.parts.proofs.records.packed_point.Statement.{statement}
 use Rattle.parts.proofs.records.packed_point.Tie as tie
 
-mul-u32-at : tie.Need-mul-u32-at
-mul-u32-at c = search needs
-
-add-u32-at : tie.Need-add-u32-at
-add-u32-at c = search needs
-
-u32-at-requires : tie.Need-u32-at-requires
-u32-at-requires c κs = search needs
-
 returns : tie.Need-returns
 returns c =
     let a = c .before .before .args in
@@ -26,4 +17,4 @@ returns c =
     (both .0 ∙ field-pair s (8 * a .m) (8 * a .m) refl, field-lt 2 s (8 * a .m + 2) (λ i. omega (arith, shared-slice-known .given i)), both .1)
 
 pub packed-point-spec : {M : Type 1} → statement M
-packed-point-spec = tie.close (tie.spec mul-u32-at add-u32-at u32-at-requires returns)
+packed-point-spec = tie.close (tie.spec (λ c. search needs) (λ c. search needs) (λ c κs. search needs) returns)

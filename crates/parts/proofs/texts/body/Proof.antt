@@ -6,19 +6,10 @@ use borrow.Author.Needs.{needs}
 use Rattle.parts.proofs.texts.body.Statement.{statement}
 use Rattle.parts.proofs.texts.body.Tie as tie
 
-node-first-requires : tie.Need-node-first-requires
-node-first-requires c κs = search needs
-
-node-count-requires : tie.Need-node-count-requires
-node-count-requires c κs = search needs
-
-cut-requires : tie.Need-cut-requires
-cut-requires c κs = search needs
-
 returns : tie.Need-returns
 returns c =
     let text = now (c .before .before .before .before .before .args .text) in
     c .cut .ensures ∙ ap₂ (part text) (c .before .before .node-first .ensures .0) (c .before .node-count .ensures .0)
 
 pub body-spec : {M : Type 1} → statement M
-body-spec = tie.close (tie.spec node-first-requires node-count-requires cut-requires returns)
+body-spec = tie.close (tie.spec (λ c κs. search needs) (λ c κs. search needs) (λ c κs. search needs) returns)

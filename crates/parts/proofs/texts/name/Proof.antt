@@ -6,19 +6,10 @@ use borrow.Author.Needs.{needs}
 use Rattle.parts.proofs.texts.name.Statement.{statement}
 use Rattle.parts.proofs.texts.name.Tie as tie
 
-name-offset-requires : tie.Need-name-offset-requires
-name-offset-requires c κs = search needs
-
-name-length-requires : tie.Need-name-length-requires
-name-length-requires c κs = search needs
-
-cut-requires : tie.Need-cut-requires
-cut-requires c κs = search needs
-
 returns : tie.Need-returns
 returns c =
     let text = now (c .before .before .before .before .before .args .text) in
     c .cut .ensures ∙ ap₂ (part text) (c .before .before .name-offset .ensures .0) (c .before .name-length .ensures .0)
 
 pub name-spec : {M : Type 1} → statement M
-name-spec = tie.close (tie.spec name-offset-requires name-length-requires cut-requires returns)
+name-spec = tie.close (tie.spec (λ c κs. search needs) (λ c κs. search needs) (λ c κs. search needs) returns)

@@ -6,15 +6,6 @@ use borrow.Author.Needs.{needs}
 use Rattle.strings.proofs.blocks.deciding.Statement.{statement}
 use Rattle.strings.proofs.blocks.deciding.Tie as tie
 
-deciding-four-requires : tie.Need-deciding-four-requires
-deciding-four-requires c κs = search needs
-
-returns : tie.Need-returns
-returns c = search needs
-
-deciding-long-requires : tie.Need-deciding-long-requires
-deciding-long-requires c κs = search needs
-
 u32-at-requires : tie.Need-u32-at-requires
 u32-at-requires c κs = omega (arith, c .deciding-long .ensures .within)
 
@@ -46,4 +37,12 @@ returns-3 c =
     (loads-same 4 a b (long .result) (c .before .before .u32-at .ensures .0) (c .before .u32-at2 .ensures .0) (c .if2 .left))
 
 pub deciding-spec : {M : Type 1} → statement M
-deciding-spec = tie.close (tie.spec deciding-four-requires returns deciding-long-requires u32-at-requires u32-at-requires-2 returns-2 add-result returns-3)
+deciding-spec =
+    tie.close
+    (tie.spec
+    (λ c κs. search needs) (λ c. search needs) (λ c κs. search needs)
+    u32-at-requires
+    u32-at-requires-2
+    returns-2
+    add-result
+    returns-3)

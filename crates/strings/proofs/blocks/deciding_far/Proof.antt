@@ -6,15 +6,6 @@ use borrow.Author.Needs.{needs}
 use Rattle.strings.proofs.blocks.deciding_far.Statement.{statement}
 use Rattle.strings.proofs.blocks.deciding_far.Tie as tie
 
-sub-deciding-thirty-two : tie.Need-sub-deciding-thirty-two
-sub-deciding-thirty-two c = search needs
-
-deciding-thirty-two-requires : tie.Need-deciding-thirty-two-requires
-deciding-thirty-two-requires c κs = search needs
-
-eight-within-requires : tie.Need-eight-within-requires
-eight-within-requires c κs = search needs
-
 returns : tie.Need-returns
 returns c =
     let args = c .before .before .before .before .args in
@@ -25,6 +16,4 @@ returns c =
     8 3 (omega arith) (c .before .deciding-thirty-two .ensures))
 
 pub deciding-far-spec : {M : Type 1} → statement M
-deciding-far-spec =
-    tie.close
-    (tie.spec sub-deciding-thirty-two deciding-thirty-two-requires eight-within-requires returns)
+deciding-far-spec = tie.close (tie.spec (λ c. search needs) (λ c κs. search needs) (λ c κs. search needs) returns)

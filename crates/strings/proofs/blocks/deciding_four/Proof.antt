@@ -6,12 +6,6 @@ use borrow.Author.Needs.{needs}
 use Rattle.strings.proofs.blocks.deciding_four.Statement.{statement}
 use Rattle.strings.proofs.blocks.deciding_four.Tie as tie
 
-u32-at-requires : tie.Need-u32-at-requires
-u32-at-requires c κs = search needs
-
-u32-at-requires-2 : tie.Need-u32-at-requires-2
-u32-at-requires-2 c κs = search needs
-
 returns : tie.Need-returns
 returns c =
     let args = c .before .before .before .before .before .args in
@@ -33,4 +27,4 @@ returns-2 c =
     (omega arith)
 
 pub deciding-four-spec : {M : Type 1} → statement M
-deciding-four-spec = tie.close (tie.spec u32-at-requires u32-at-requires-2 returns returns-2)
+deciding-four-spec = tie.close (tie.spec (λ c κs. search needs) (λ c κs. search needs) returns returns-2)

@@ -1,4 +1,5 @@
 -- `strings::blocks::deciding_thirty_two` meets its contract. The loop's invariant: the strings are the same before `i`. Assumes nothing.
+use borrow.Author.Needs.{needs}
 use Prim.Native.Nat.{_-_}
 use mathlib.Core.Path.{sym, _∙_}
 use native.Mathlib.Omega.{arith}
@@ -17,21 +18,12 @@ abbrev μ-loop : tie.MeasureT-loop
 loop-holds : tie.Need-loop-holds Inv-loop μ-loop
 loop-holds c = λ i h. absurd (omega arith)
 
-differs-requires : tie.Need-differs-requires Inv-loop μ-loop
-differs-requires c κs = omega arith
-
 returns : tie.Need-returns Inv-loop μ-loop
 returns c =
     let loop = c .before .before .before .loop in
     let args = c .before .before .before .before .before .before .args in
     decides-here 32 (now (args .a)) (now (args .b)) (loop .i) (loop .inv) (omega arith)
     (sym (c .before .differs .ensures) ∙ c .if1 .taken)
-
-add-i : tie.Need-add-i Inv-loop μ-loop
-add-i c = omega arith
-
-loop-less : tie.Need-loop-less Inv-loop μ-loop
-loop-less c = omega arith
 
 loop-again : tie.Need-loop-again Inv-loop μ-loop
 loop-again c =
@@ -55,9 +47,8 @@ deciding-thirty-two-spec =
     Inv-loop
     μ-loop
     loop-holds
-    differs-requires
+    (λ c κs. search needs)
     returns
-    add-i
-    loop-less
+    (λ c. search needs) (λ c. search needs)
     loop-again
     returns-2)

@@ -1,5 +1,6 @@
 -- `strings::blocks::differs` meets its contract. The loop's invariant: the block differs if a byte was seen to, or what is left of it
 -- from `k` on does. Assumes nothing.
+use borrow.Author.Needs.{needs}
 use Prim.Native.Nat.{ℕ, _+_, _-_, _≤_}
 use mathlib.Core.Bool.{_||_}
 use mathlib.Core.Logic.{⊎-elim}
@@ -21,21 +22,6 @@ loop-holds : tie.Need-loop-holds Inv-loop μ-loop
 loop-holds c =
     let args = c .args in
     (omega arith, omega arith, ap (λ (n : ℕ). differ n (now (args .a)) (now (args .b)) (args .i)) (omega arith))
-
-add-loop : tie.Need-add-loop Inv-loop μ-loop
-add-loop c = omega arith
-
-shared-slice-read-if1 : tie.Need-shared-slice-read-if1 Inv-loop μ-loop
-shared-slice-read-if1 c = omega arith
-
-shared-slice-read-if1-2 : tie.Need-shared-slice-read-if1-2 Inv-loop μ-loop
-shared-slice-read-if1-2 c = omega arith
-
-add-k : tie.Need-add-k Inv-loop μ-loop
-add-k c = omega arith
-
-loop-less : tie.Need-loop-less Inv-loop μ-loop
-loop-less c = omega arith
 
 loop-again : tie.Need-loop-again Inv-loop μ-loop
 loop-again c =
@@ -66,10 +52,6 @@ differs-spec =
     Inv-loop
     μ-loop
     loop-holds
-    add-loop
-    shared-slice-read-if1
-    shared-slice-read-if1-2
-    add-k
-    loop-less
+    (λ c. search needs) (λ c. search needs) (λ c. search needs) (λ c. search needs) (λ c. search needs)
     loop-again
     returns)

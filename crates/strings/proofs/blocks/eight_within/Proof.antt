@@ -9,12 +9,6 @@ use borrow.Author.Needs.{needs}
 use Rattle.strings.proofs.blocks.eight_within.Statement.{statement}
 use Rattle.strings.proofs.blocks.eight_within.Tie as tie
 
-u64-at-requires : tie.Need-u64-at-requires
-u64-at-requires c κs = search needs
-
-u64-at-requires-2 : tie.Need-u64-at-requires-2
-u64-at-requires-2 c κs = search needs
-
 returns : tie.Need-returns
 returns c =
     let args = c .before .before .before .before .before .args in
@@ -22,21 +16,6 @@ returns c =
     let b = now (args .b) in
     let at = args .at in
     sym (first-here 8 2 a b at (c .before .before .u64-at .ensures .0) (c .before .u64-at2 .ensures .0) (c .if1 .taken))
-
-add-u64-at : tie.Need-add-u64-at
-add-u64-at c = search needs
-
-u64-at-requires-3 : tie.Need-u64-at-requires-3
-u64-at-requires-3 c κs = search needs
-
-add-u64-at-2 : tie.Need-add-u64-at-2
-add-u64-at-2 c = search needs
-
-u64-at-requires-4 : tie.Need-u64-at-requires-4
-u64-at-requires-4 c κs = search needs
-
-add-result : tie.Need-add-result
-add-result c = search needs
 
 returns-2 : tie.Need-returns-2
 returns-2 c =
@@ -48,21 +27,6 @@ returns-2 c =
     sym
     (first-later 8 2 a b at (first .before .before .u64-at .ensures .0) (first .before .u64-at2 .ensures .0) (first .if1 .left) (at + 8) refl
     ∙ first-here 8 1 a b (at + 8) (c .before .before .u64-at3 .ensures .0) (c .before .u64-at4 .ensures .0) (c .if2 .taken))
-
-add-u64-at-3 : tie.Need-add-u64-at-3
-add-u64-at-3 c = search needs
-
-u64-at-requires-5 : tie.Need-u64-at-requires-5
-u64-at-requires-5 c κs = search needs
-
-add-u64-at-4 : tie.Need-add-u64-at-4
-add-u64-at-4 c = search needs
-
-u64-at-requires-6 : tie.Need-u64-at-requires-6
-u64-at-requires-6 c κs = search needs
-
-add-result-2 : tie.Need-add-result-2
-add-result-2 c = search needs
 
 returns-3 : tie.Need-returns-3
 returns-3 c =
@@ -78,9 +42,6 @@ returns-3 c =
     (first-later 8 2 a b at (first .before .before .u64-at .ensures .0) (first .before .u64-at2 .ensures .0) (first .if1 .left) (at + 8) refl
     ∙ first-later 8 1 a b (at + 8) (second .before .before .u64-at3 .ensures .0) (second .before .u64-at4 .ensures .0) (second .if2 .left) (at + 16) (omega arith)
     ∙ first-here 8 0 a b (at + 16) (u64-at5 .ensures .0) (u64-at6 .ensures .0) (c .if3 .taken))
-
-add-result-3 : tie.Need-add-result-3
-add-result-3 c = search needs
 
 returns-4 : tie.Need-returns-4
 unfolding firstDiffering
@@ -102,20 +63,11 @@ pub eight-within-spec : {M : Type 1} → statement M
 eight-within-spec =
     tie.close
     (tie.spec
-    u64-at-requires
-    u64-at-requires-2
+    (λ c κs. search needs) (λ c κs. search needs)
     returns
-    add-u64-at
-    u64-at-requires-3
-    add-u64-at-2
-    u64-at-requires-4
-    add-result
+    (λ c. search needs) (λ c κs. search needs) (λ c. search needs) (λ c κs. search needs) (λ c. search needs)
     returns-2
-    add-u64-at-3
-    u64-at-requires-5
-    add-u64-at-4
-    u64-at-requires-6
-    add-result-2
+    (λ c. search needs) (λ c κs. search needs) (λ c. search needs) (λ c κs. search needs) (λ c. search needs)
     returns-3
-    add-result-3
+    (λ c. search needs)
     returns-4)

@@ -6,9 +6,6 @@ use Rattle.table_entries.proofs.NameLaws.{dots-other, dots-one, dots-lo
 use Rattle.table_entries.proofs.names.is_dots.Statement.{statement}
 use Rattle.table_entries.proofs.names.is_dots.Tie as tie
 
-shared-slice-read-if1 : tie.Need-shared-slice-read-if1
-shared-slice-read-if1 c = search needs
-
 returns : tie.Need-returns
 returns c = sym (dots-other (now (c .before .before .args .s)) (c .before .before .pre) (c .if1 .taken))
 
@@ -18,13 +15,8 @@ returns-2 c = sym (dots-one (now (c .before .before .before .args .s)) (c .if2 .
 returns-3 : tie.Need-returns-3
 returns-3 c = sym (dots-long (now (c .before .before .before .before .args .s)) (c .before .if2 .left) (c .if3 .taken))
 
-shared-slice-read-result : tie.Need-shared-slice-read-result
-shared-slice-read-result c = search needs
-
 returns-4 : tie.Need-returns-4
 returns-4 c = sym (dots-two (now (c .before .before .before .before .before .args .s)) (c .before .if3 .left) (c .before .before .before .if1 .left))
 
 pub is-dots-spec : {M : Type 1} → statement M
-is-dots-spec =
-    tie.close
-    (tie.spec shared-slice-read-if1 returns returns-2 returns-3 shared-slice-read-result returns-4)
+is-dots-spec = tie.close (tie.spec (λ c. search needs) returns returns-2 returns-3 (λ c. search needs) returns-4)

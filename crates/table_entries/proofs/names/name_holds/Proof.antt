@@ -17,15 +17,6 @@ use Rattle.table_entries.proofs.NameLaws.{dots, name-test}
 use Rattle.table_entries.proofs.names.name_holds.Statement.{statement}
 use Rattle.table_entries.proofs.names.name_holds.Tie as tie
 
-name-length-requires : tie.Need-name-length-requires
-name-length-requires c κs = search needs
-
-name-offset-requires : tie.Need-name-offset-requires
-name-offset-requires c κs = search needs
-
-add-if1 : tie.Need-add-if1
-add-if1 c = search needs
-
 returns : tie.Need-returns
 returns c =
     let a = c .before .before .before .before .before .args in
@@ -43,9 +34,6 @@ returns-3 c =
     let a = c .before .before .before .before .before .before .before .args in
     let t = entriesTree (a .c) [] (now (a .entries)) (now (a .text)) in
     sym (name-test t (a .e) ∙ simp (lt-leb (t .nameLength (a .e)) 255 (omega arith), and-false))
-
-name-requires : tie.Need-name-requires
-name-requires c κs = search needs
 
 holds-forbidden-requires : tie.Need-holds-forbidden-requires
 holds-forbidden-requires c κs = λ k.
@@ -87,13 +75,11 @@ pub name-holds-spec : {M : Type 1} → statement M
 name-holds-spec =
     tie.close
     (tie.spec
-    name-length-requires
-    name-offset-requires
-    add-if1
+    (λ c κs. search needs) (λ c κs. search needs) (λ c. search needs)
     returns
     returns-2
     returns-3
-    name-requires
+    (λ c κs. search needs)
     holds-forbidden-requires
     returns-4
     is-dots-requires

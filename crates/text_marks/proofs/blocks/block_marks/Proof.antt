@@ -8,27 +8,15 @@ use Rattle.text_marks.proofs.BlockLaws.{ends-short, whole-names, whole-
 use Rattle.text_marks.proofs.blocks.block_marks.Statement.{statement}
 use Rattle.text_marks.proofs.blocks.block_marks.Tie as tie
 
-add-if1 : tie.Need-add-if1
-add-if1 c = search needs
-
-short-marks-requires : tie.Need-short-marks-requires
-short-marks-requires c κs = search needs
-
 returns : tie.Need-returns
 returns c =
     let a = c .before .before .before .args in
     c .short-marks .ensures ∙ rw (ends-short (now (a .text)) (a .at) (c .before .if1 .taken))
 
-byte-marks-requires : tie.Need-byte-marks-requires
-byte-marks-requires c κs = search needs
-
 returns-2 : tie.Need-returns-2
 returns-2 c =
     let a = c .before .before .before .before .args in
     whole-bodies (now (a .text)) (a .at) (c .before .before .if1 .left) (not-true (a .names) (c .if2 .taken)) (c .before .byte-marks .ensures)
-
-byte-marks-requires-2 : tie.Need-byte-marks-requires-2
-byte-marks-requires-2 c κs = search needs
 
 add-result : tie.Need-add-result
 add-result c =
@@ -45,11 +33,10 @@ pub block-marks-spec : {M : Type 1} → statement M
 block-marks-spec =
     tie.close
     (tie.spec
-    add-if1
-    short-marks-requires
+    (λ c. search needs) (λ c κs. search needs)
     returns
-    byte-marks-requires
+    (λ c κs. search needs)
     returns-2
-    byte-marks-requires-2
+    (λ c κs. search needs)
     add-result
     returns-3)

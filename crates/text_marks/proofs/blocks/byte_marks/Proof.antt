@@ -7,9 +7,6 @@ use Rattle.text_marks.proofs.BlockLaws.{marks-none}
 use Rattle.text_marks.proofs.blocks.byte_marks.Statement.{statement}
 use Rattle.text_marks.proofs.blocks.byte_marks.Tie as tie
 
-block-holds-requires : tie.Need-block-holds-requires
-block-holds-requires c κs = search needs
-
 returns : tie.Need-returns
 returns c =
     let start = c .before .before .before in
@@ -17,11 +14,5 @@ returns c =
     let holds = c .before .block-holds in
     sym (marks-none (a .byte) (now (a .text)) (a .at) 64 (start .pre) (sym (holds .ensures) ∙ not-true (holds .result) (c .if1 .taken)))
 
-full-marks-requires : tie.Need-full-marks-requires
-full-marks-requires c κs = search needs
-
-returns-2 : tie.Need-returns-2
-returns-2 c = search needs
-
 pub byte-marks-spec : {M : Type 1} → statement M
-byte-marks-spec = tie.close (tie.spec block-holds-requires returns full-marks-requires returns-2)
+byte-marks-spec = tie.close (tie.spec (λ c κs. search needs) returns (λ c κs. search needs) (λ c. search needs))

@@ -1,4 +1,5 @@
 -- `text_marks::blocks::full_marks` meets its contract. The loop's invariant: the bytes from `i` on are marked. Assumes nothing.
+use borrow.Author.Needs.{needs}
 use Prim.Native.Nat.{ℕ, _+_, _-_, _*_, _/_, _≤_}
 use mathlib.Core.Bool.{Bool}
 use mathlib.Core.Path.{_≡_, refl, _∙_}
@@ -21,29 +22,17 @@ loop-holds : tie.Need-loop-holds Inv-loop μ-loop
 unfolding marksOf
 loop-holds c = (omega arith, omega arith, refl)
 
-sub-i : tie.Need-sub-i Inv-loop μ-loop
-sub-i c = omega arith
-
 mul-marks : tie.Need-mul-marks Inv-loop μ-loop
 mul-marks c =
     let a = c .before .before .before .args in
     let l = c .before .loop in
     omega (arith, l .inv .2, room-eight (λ x. eqb x (a .byte)) (now (a .text)) (a .at + l .i) (64 - l .i) (omega arith))
 
-add-eight-marks : tie.Need-add-eight-marks Inv-loop μ-loop
-add-eight-marks c = omega arith
-
-eight-marks-requires : tie.Need-eight-marks-requires Inv-loop μ-loop
-eight-marks-requires c κs = omega arith
-
 add-marks : tie.Need-add-marks Inv-loop μ-loop
 add-marks c =
     let a = c .before .before .before .before .args in
     let l = c .before .before .loop in
     omega (arith, l .inv .2, room-eight (λ x. eqb x (a .byte)) (now (a .text)) (a .at + l .i) (64 - l .i) (omega arith))
-
-loop-less : tie.Need-loop-less Inv-loop μ-loop
-loop-less c = omega arith
 
 loop-again : tie.Need-loop-again Inv-loop μ-loop
 loop-again c =
@@ -66,11 +55,10 @@ full-marks-spec =
     Inv-loop
     μ-loop
     loop-holds
-    sub-i
+    (λ c. search needs)
     mul-marks
-    add-eight-marks
-    eight-marks-requires
+    (λ c. search needs) (λ c κs. search needs)
     add-marks
-    loop-less
+    (λ c. search needs)
     loop-again
     returns)

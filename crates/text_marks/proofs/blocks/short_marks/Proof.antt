@@ -22,29 +22,17 @@ loop-holds c =
     let a = c .before .args in
     (omega arith, omega arith, none-left (barred (a .names)) (now (a .text)))
 
-sub-i : tie.Need-sub-i Inv-loop μ-loop
-sub-i c = search needs
-
 mul-marks : tie.Need-mul-marks Inv-loop μ-loop
 mul-marks c =
     let a = c .before .before .before .args in
     let l = c .before .loop in
     omega (arith, l .inv .2, room-one (barred (a .names)) (now (a .text)) (l .i) (length (now (a .text)) - l .i) (omega arith))
 
-shared-slice-read-is-barred : tie.Need-shared-slice-read-is-barred Inv-loop μ-loop
-shared-slice-read-is-barred c = search needs
-
-is-barred-requires : tie.Need-is-barred-requires Inv-loop μ-loop
-is-barred-requires c κs = search needs
-
 add-marks : tie.Need-add-marks Inv-loop μ-loop
 add-marks c =
     let a = c .before .before .before .before .before .before .args in
     let l = c .before .before .before .before .loop in
     omega (arith, l .inv .2, room-one (barred (a .names)) (now (a .text)) (l .i) (length (now (a .text)) - l .i) (omega arith))
-
-loop-less : tie.Need-loop-less Inv-loop μ-loop
-loop-less c = omega arith
 
 loop-again : tie.Need-loop-again Inv-loop μ-loop
 loop-again c =
@@ -53,9 +41,6 @@ loop-again c =
     let e = ap digit (sym (c .before .is-barred .ensures) ∙ c .if1 .taken) in
     let m = one-more (barred (a .names)) (now (a .text)) (l .i) (omega arith) (omega arith) (l .inv .2) in
     (omega arith, omega arith, omega (arith, e, m))
-
-loop-less-2 : tie.Need-loop-less-2 Inv-loop μ-loop
-loop-less-2 c = omega arith
 
 loop-again-2 : tie.Need-loop-again-2 Inv-loop μ-loop
 loop-again-2 c =
@@ -79,13 +64,12 @@ short-marks-spec =
     Inv-loop
     μ-loop
     loop-holds
-    sub-i
+    (λ c. search needs)
     mul-marks
-    shared-slice-read-is-barred
-    is-barred-requires
+    (λ c. search needs) (λ c κs. search needs)
     add-marks
-    loop-less
+    (λ c. search needs)
     loop-again
-    loop-less-2
+    (λ c. search needs)
     loop-again-2
     returns)

@@ -9,18 +9,12 @@ use Rattle.text_marks.specs.Barred.{holdsBarred}
 use Rattle.text_marks.proofs.bytes.holds_barred.Statement.{statement}
 use Rattle.text_marks.proofs.bytes.holds_barred.Tie as tie
 
-holds-byte-requires : tie.Need-holds-byte-requires
-holds-byte-requires c κs = search needs
-
 returns : tie.Need-returns
 unfolding holdsBarred
 returns c =
     let a = c .before .before .before .args in
     let bodies : a .names ≡ false = not-true _ (c .before .if1 .taken) in
     c .holds-byte .ensures ∙ sym (rw bodies (or-false _))
-
-short-holds-requires : tie.Need-short-holds-requires
-short-holds-requires c κs = search needs
 
 returns-2 : tie.Need-returns-2
 returns-2 c =
@@ -37,9 +31,6 @@ returns-3 c =
     let of-names : a .names ≡ true = not-false _ (c .before .before .before .if1 .left) in
     c .eights-hold .ensures ∙ ap (λ n. holdsBarred n (now (a .s))) (sym of-names)
 
-long-holds-requires : tie.Need-long-holds-requires
-long-holds-requires c κs = search needs
-
 returns-4 : tie.Need-returns-4
 returns-4 c =
     let a = c .before .before .before .before .before .args in
@@ -50,11 +41,11 @@ pub holds-barred-spec : {M : Type 1} → statement M
 holds-barred-spec =
     tie.close
     (tie.spec
-    holds-byte-requires
+    (λ c κs. search needs)
     returns
-    short-holds-requires
+    (λ c κs. search needs)
     returns-2
     eights-hold-requires
     returns-3
-    long-holds-requires
+    (λ c κs. search needs)
     returns-4)

@@ -1,5 +1,4 @@
 -- `text_marks::bytes::is_barred` meets its contract. Assumes nothing.
-use mathlib.Core.Path.{_≡_, refl}
 use borrow.Author.Tests.{eq-eqb, ne-eqb}
 use Rattle.text_marks.specs.Barred.{barred}
 use Rattle.text_marks.proofs.bytes.is_barred.Statement.{statement}
