@@ -5,39 +5,15 @@ use mathlib.Core.List.{List}
 use mathlib.Core.Option.{Option, none, some}
 use mathlib.Core.Path.{_≡_}
 use lib.Dec.{ltb}
-use Rattle.model.specs.Bytes.{has, sameBytes, ascii}
-use Rattle.model.specs.Tree.{treeOf}
-use Rattle.model.specs.OpenHow.{NO-XDEV, NO-MAGICLINKS, NO-SYMLINKS, BENEATH, IN-ROOT}
-use Rattle.model.specs.Trace.{Restriction, mark, beneath, noXdev, noSymlinks, noMagiclinks, Restrictions, forbidAny}
+use Rattle.model.specs.Bytes.{sameBytes, ascii}
+use Rattle.model.specs.Trace.{Restrictions, forbidAny}
 use Rattle.model.specs.Walk.{Request, Move, stayAt, climb, atTop, Landing, outside, target, reading, Step, fail, go, follow}
 use Rattle.model.specs.declared.Place.{Place}
 use Rattle.model.specs.declared.Errno.{Errno}
 use Rattle.model.specs.declared.Errno.the-variants.{Eloop, Exdev}
-use Rattle.component.specs.declared.Ask.{Ask}
+use Rattle.model.specs.Resolve.{restrictionsBy}
 use Rattle.component.specs.declared.Outcome.{Outcome}
 use Rattle.component.specs.declared.Outcome.the-variants.{Stop, Go, Target, Read}
-
--- the request that the numbers stand for, over an image
-abbrev pub requestFor : List ℕ → Ask → Request
-requestFor s k = record {
-  tree = treeOf s;
-  handle = k .handle;
-  root = k .root;
-  inRoot = has IN-ROOT (k .resolve);
-  followLast = k .follow;
-  pathOnly = k .opath;
-}
-
--- the restrictions that a mark and the bits of resolve set
-abbrev pub restrictionsBy : Bool → ℕ → Restrictions
-restrictionsBy m bits mark = m
-restrictionsBy m bits beneath = has BENEATH bits
-restrictionsBy m bits noXdev = has NO-XDEV bits
-restrictionsBy m bits noSymlinks = has NO-SYMLINKS bits
-restrictionsBy m bits noMagiclinks = has NO-MAGICLINKS bits
-
-abbrev pub restrictionsFor : Ask → Restrictions
-restrictionsFor k = restrictionsBy (k .mark) (k .resolve)
 
 abbrev pub stopOr : Option Errno → Outcome → Outcome
 stopOr none o = o

@@ -12,6 +12,7 @@ use model::Errno;
 use model::Place;
 use parts::records::Counts;
 use parts::search::Search;
+use request::Request;
 use tree::find_entry;
 ghost use mathlib.Core.Bool.{true};
 ghost use mathlib.Core.Path.{_≡_};
@@ -19,18 +20,9 @@ ghost use Prim.Native.Nat.{ℕ, _≤_, _<_};
 ghost use Rattle.model.specs.Tree.{treeOf, isDirectory};
 ghost use Rattle.model.specs.Walk.{stepTo, byName, oneComponent};
 ghost use Rattle.laws.specs.Inside.{Inside};
-ghost use Rattle.component.specs.Outcomes.{requestFor, restrictionsFor, outcome, dotsOf};
-ghost use Rattle.component.specs.Walking.{Walking};
-
-// What a walk is asked, as numbers: the handle's place and mark, the root, resolve's bits, whether a last link is followed, and O_PATH.
-pub struct Ask {
-    pub handle: Place,
-    pub root: Place,
-    pub mark: bool,
-    pub resolve: u64,
-    pub follow: bool,
-    pub opath: bool,
-}
+ghost use Rattle.request.specs.Requests.{requestFor, restrictionsFor};
+ghost use Rattle.component.specs.Outcomes.{outcome, dotsOf};
+ghost use Rattle.request.specs.Walking.{Walking};
 
 // Where one component leads: the walk stops with an error, goes on from a place, goes on from the target of a magic link, or reads
 // the body of the symbolic link whose node is given, from a place.
@@ -43,7 +35,15 @@ pub enum Outcome {
 
 // A named node, by its kind. Only a directory can be covered. An accepted table has none but 1 to 4; any other is no link, and so
 // stepped to.
-fn step_to(image: &[u8], c: Counts, k: Ask, last: bool, links: usize, p: Place, n: usize) -> Outcome
+fn step_to(
+    image: &[u8],
+    c: Counts,
+    k: Request,
+    last: bool,
+    links: usize,
+    p: Place,
+    n: usize,
+) -> Outcome
     requires { ⌜ Walking (now image) c k × Inside (treeOf (now image)) p × (n < treeOf (now image) .nodes) ⌝ }
     ensures { λ r. ⌜ r ≡ outcome (restrictionsFor k) links (stepTo (requestFor (now (image .entry)) k) last p n) ⌝ }
 {
@@ -64,7 +64,7 @@ fn step_to(image: &[u8], c: Counts, k: Ask, last: bool, links: usize, p: Place, 
 fn by_name(
     image: &[u8],
     c: Counts,
-    k: Ask,
+    k: Request,
     last: bool,
     links: usize,
     p: Place,
@@ -109,7 +109,7 @@ fn dots(name: &[u8]) -> usize
 pub fn take_component(
     image: &[u8],
     c: Counts,
-    k: Ask,
+    k: Request,
     last: bool,
     links: usize,
     p: Place,

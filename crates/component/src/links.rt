@@ -1,5 +1,4 @@
 // Following a link: its events under the restrictions, and where it leads.
-use crate::Ask;
 use crate::Outcome;
 use image::records::node_count;
 use image::records::node_first;
@@ -13,6 +12,7 @@ use open_how::NO_SYMLINKS;
 use open_how::NO_XDEV;
 use open_how::has;
 use parts::records::Counts;
+use request::Request;
 use text::is_absolute;
 ghost use mathlib.Core.Bool.{not, _&&_, _||_};
 ghost use lib.Dec.{eqb, ltb};
@@ -22,9 +22,10 @@ ghost use Rattle.model.specs.Bytes.{has};
 ghost use Rattle.model.specs.OpenHow.{NO-XDEV};
 ghost use Rattle.model.specs.Tree.{treeOf};
 ghost use Rattle.model.specs.Walk.{magicLink, symbolicLink, stepTo};
-ghost use Rattle.component.specs.Outcomes.{requestFor, restrictionsFor, outcome, unlimited};
+ghost use Rattle.request.specs.Requests.{requestFor, restrictionsFor};
+ghost use Rattle.component.specs.Outcomes.{outcome, unlimited};
 ghost use Rattle.laws.specs.Acceptance.{Sized};
-ghost use Rattle.component.specs.Walking.{Walking};
+ghost use Rattle.request.specs.Walking.{Walking};
 
 // Whether NO_XDEV bars the way between two mounts that are not the same.
 fn barred(resolve: u64, m: usize, n: usize) -> bool
@@ -37,7 +38,7 @@ fn barred(resolve: u64, m: usize, n: usize) -> bool
 }
 
 // Events Link and Magic, then the target; under IN_ROOT it is refused.
-fn follow_magic(image: &[u8], k: Ask, p: Place, n: usize) -> Outcome
+fn follow_magic(image: &[u8], k: Request, p: Place, n: usize) -> Outcome
     requires { ⌜ Sized (now image) × (n < treeOf (now image) .nodes) ⌝ }
     ensures { λ r. ⌜ r ≡ unlimited (restrictionsFor k) (magicLink (requestFor (now (image .entry)) k) p n) ⌝ }
 {
@@ -65,7 +66,7 @@ fn follow_magic(image: &[u8], k: Ask, p: Place, n: usize) -> Outcome
 }
 
 // Events Link and, for a body that starts with a slash, Jump; then the body, from the root or from where the link is named.
-fn follow_symbolic(image: &[u8], c: Counts, k: Ask, p: Place, n: usize) -> Outcome
+fn follow_symbolic(image: &[u8], c: Counts, k: Request, p: Place, n: usize) -> Outcome
     requires { ⌜ Walking (now image) c k × (n < treeOf (now image) .nodes) × (treeOf (now image) .kind n ≡ 3) ⌝ }
     ensures { λ r. ⌜ r ≡ unlimited (restrictionsFor k) (symbolicLink (requestFor (now (image .entry)) k) p n) ⌝ }
 {
@@ -109,7 +110,7 @@ fn is_spent(links: usize) -> bool
 pub fn magic_to(
     image: &[u8],
     c: Counts,
-    k: Ask,
+    k: Request,
     last: bool,
     links: usize,
     p: Place,
@@ -134,7 +135,7 @@ pub fn magic_to(
 pub fn symbolic_to(
     image: &[u8],
     c: Counts,
-    k: Ask,
+    k: Request,
     last: bool,
     links: usize,
     p: Place,

@@ -1,5 +1,4 @@
 // Moves with no link in them: entering a mount, and "..".
-use crate::Ask;
 use crate::Outcome;
 use image::records::mount_parent;
 use image::records::mount_point;
@@ -12,6 +11,7 @@ use open_how::NO_XDEV;
 use open_how::has;
 use parts::records::Counts;
 use parts::search::Search;
+use request::Request;
 use tree::find_mount;
 ghost use mathlib.Core.Bool.{true};
 ghost use mathlib.Core.Path.{_≡_};
@@ -19,8 +19,9 @@ ghost use Prim.Native.Nat.{ℕ, _<_};
 ghost use Rattle.model.specs.Tree.{treeOf, isDirectory};
 ghost use Rattle.model.specs.Walk.{samePlace, rootOf, enter, toParent, climb, goUp};
 ghost use Rattle.laws.specs.Inside.{Inside};
-ghost use Rattle.component.specs.Outcomes.{requestFor, restrictionsFor, moveOutcome, MovesUnder, upFrom};
-ghost use Rattle.component.specs.Walking.{Reading, Walking};
+ghost use Rattle.request.specs.Requests.{requestFor, restrictionsFor};
+ghost use Rattle.component.specs.Outcomes.{moveOutcome, MovesUnder, upFrom};
+ghost use Rattle.request.specs.Walking.{Reading, Walking};
 
 fn same_place(p: Place, q: Place) -> bool
     ensures { λ r. ⌜ r ≡ samePlace p q ⌝ }
@@ -93,7 +94,7 @@ fn climb(image: &[u8], c: Counts, resolve: u64, p: Place) -> Outcome
 }
 
 // At the root, or mount 0's root, ".." stays.
-fn up_from(image: &[u8], c: Counts, k: Ask, p: Place) -> Outcome
+fn up_from(image: &[u8], c: Counts, k: Request, p: Place) -> Outcome
     requires { ⌜ Walking (now image) c k × (p .mount < treeOf (now image) .mounts) × (isDirectory (treeOf (now image)) (p .node) ≡ true) ⌝ }
     ensures { λ r. ⌜ r ≡ moveOutcome (restrictionsFor k) (upFrom (requestFor (now (image .entry)) k) p) ⌝ }
 {
@@ -115,7 +116,7 @@ fn up_from(image: &[u8], c: Counts, k: Ask, p: Place) -> Outcome
 }
 
 // "..", with Escape at the handle's place.
-pub fn go_up(image: &[u8], c: Counts, k: Ask, p: Place) -> Outcome
+pub fn go_up(image: &[u8], c: Counts, k: Request, p: Place) -> Outcome
     requires { ⌜ Walking (now image) c k × (p .mount < treeOf (now image) .mounts) × (isDirectory (treeOf (now image)) (p .node) ≡ true) ⌝ }
     ensures { λ r. ⌜ r ≡ moveOutcome (restrictionsFor k) (goUp (requestFor (now (image .entry)) k) p) ⌝ }
 {

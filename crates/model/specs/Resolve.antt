@@ -41,25 +41,31 @@ unfoldable pub refusedBefore : List ℕ → Handle → List ℕ → List ℕ →
 refusedBefore image h path how =
     orElse (refusedTable (tableCheck image)) (orElse (howRefused how) (orElse (pathRefused path) (handleRefused (treeOf image) h)))
 
--- the restrictions that a call sets
+-- the restrictions that a mark and the bits of resolve set, and so those that a call sets
+abbrev pub restrictionsBy : Bool → ℕ → Restrictions
+restrictionsBy marked bits mark = marked
+restrictionsBy marked bits beneath = has BENEATH bits
+restrictionsBy marked bits noXdev = has NO-XDEV bits
+restrictionsBy marked bits noSymlinks = has NO-SYMLINKS bits
+restrictionsBy marked bits noMagiclinks = has NO-MAGICLINKS bits
+
 unfoldable pub restrictions : Call → Restrictions
-restrictions call mark = call .handle .mark
-restrictions call beneath = has BENEATH (resolveOf (call .how))
-restrictions call noXdev = has NO-XDEV (resolveOf (call .how))
-restrictions call noSymlinks = has NO-SYMLINKS (resolveOf (call .how))
-restrictions call noMagiclinks = has NO-MAGICLINKS (resolveOf (call .how))
+restrictions call = restrictionsBy (call .handle .mark) (resolveOf (call .how))
 
 -- "The root is the handle under IN_ROOT, else mount 0's root." "A last link is followed unless O_NOFOLLOW is set and the given
--- path does not end in "/"."
-unfoldable pub requestOf : List ℕ → Call → Request
-requestOf image call = record {
+-- path does not end in "/".": what a handle, flags and resolve ask, and whether the path ends in "/", and so what a call asks
+abbrev pub requestBy : List ℕ → Handle → ℕ → ℕ → Bool → Request
+requestBy image h flags bits slash = record {
   tree = treeOf image;
-  handle = placeOf (call .handle);
-  root = cond (has IN-ROOT (resolveOf (call .how))) (placeOf (call .handle)) (rootOf (treeOf image) 0);
-  inRoot = has IN-ROOT (resolveOf (call .how));
-  followLast = not (has O-NOFOLLOW (flagsOf (call .how))) || endsInSlash (call .path);
-  pathOnly = has O-PATH (flagsOf (call .how));
+  handle = placeOf h;
+  root = cond (has IN-ROOT bits) (placeOf h) (rootOf (treeOf image) 0);
+  inRoot = has IN-ROOT bits;
+  followLast = not (has O-NOFOLLOW flags) || slash;
+  pathOnly = has O-PATH flags;
 }
+
+unfoldable pub requestOf : List ℕ → Call → Request
+requestOf image call = requestBy image (call .handle) (flagsOf (call .how)) (resolveOf (call .how)) (endsInSlash (call .path))
 
 -- "A directory is required by O_DIRECTORY, by a "/" ending the path, .."
 unfoldable pub traceOf : List ℕ → Call → Trace

@@ -21,8 +21,8 @@ use Rattle.text.specs.Positions.{Stands, slashes, left}
 use Rattle.text.specs.Texts.{textOf}
 use Rattle.text.proofs.Components.{left-start, left-end, start-stands}
 use Rattle.text.proofs.Texts.{text-path, path-readable}
-use Rattle.component.specs.Outcomes.{requestFor, restrictionsFor}
-use Rattle.component.specs.declared.Ask.{Ask}
+use Rattle.request.specs.Requests.{requestFor, restrictionsFor}
+use Rattle.request.specs.declared.Request.{Request}
 use Rattle.walk.specs.OpenTexts.{leftIn, suspended, pending, rest, Ready}
 use Rattle.walk.specs.declared.Walk.{Walk}
 
@@ -32,7 +32,7 @@ atStart p directory = record { place = p; progress = notWalked; directory = dire
 abbrev pub walkAt : Place → Bool → ℕ → Walk
 walkAt p directory at = record { state = atStart p directory; text = 65535; at = at; depth = 0 }
 
-module _ (s path stack : List ℕ) (k : Ask) (p : Place) (directory : Bool) where
+module _ (s path stack : List ℕ) (k : Request) (p : Place) (directory : Bool) where
   given : textOf (treeOf s) path 65535 ≡ path
   given = text-path (treeOf s) path 65535 refl
 

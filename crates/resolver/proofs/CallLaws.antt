@@ -3,12 +3,12 @@ use Prim.Native.Nat.{ℕ, _≤_}
 use mathlib.Core.Bool.{Bool, _||_}
 use mathlib.Core.List.{List}
 use mathlib.Core.Option.{Option, some, none}
-use mathlib.Core.Path.{_≡_, refl, sym, ap, ap₂, _∙_, subst, fun-ext}
+use mathlib.Core.Path.{_≡_, refl, sym, ap₂, _∙_, subst}
 use native.Mathlib.Omega.{arith}
 use Rattle.model.specs.Bytes.{has}
 use Rattle.model.specs.OpenHow.{O-DIRECTORY, IN-ROOT, flagsOf}
 use Rattle.model.specs.Path.{endsInSlash}
-use Rattle.model.specs.Trace.{Restriction, mark, beneath, noXdev, noSymlinks, noMagiclinks, answer}
+use Rattle.model.specs.Trace.{answer}
 use lib.ListN.{length}
 use Rattle.model.specs.Answers.{notWalked, refused}
 use Rattle.model.specs.TableCheck.{tableCheck}
@@ -23,8 +23,8 @@ use Rattle.laws.specs.Inside.{Inside}
 use Rattle.laws.proofs.Inside.{root-inside}
 use Rattle.laws.proofs.Refusals.{unrefused, path-short, handle-inside}
 use Rattle.parts.specs.declared.records.Counts.{Counts}
-use Rattle.component.specs.Walking.{Reading, Walking}
-use Rattle.component.specs.declared.Ask.{Ask}
+use Rattle.request.specs.Walking.{Reading, Walking}
+use Rattle.request.specs.declared.Request.{Request}
 use Rattle.model.specs.Resolve.{callOf, refusedBefore, restrictions, requestOf, traceOf, resolve}
 use Rattle.model.specs.declared.Handle.{Handle}
 use Rattle.model.specs.declared.Refusal.{Refusal}
@@ -33,8 +33,7 @@ use Rattle.open_how.specs.Fields.{fieldsOf}
 use Rattle.call.specs.Calls.{walksUnless}
 use Rattle.open_how.specs.declared.How.{How}
 use Rattle.call.specs.declared.CallRead.the-variants.{Walks, Refused as CallRefused}
-use Rattle.component.specs.Outcomes.{requestFor, restrictionsFor}
-use Rattle.resolver.specs.Asking.{askOf}
+use Rattle.request.specs.Requests.{requestFor, restrictionsFor, numbersBy}
 
 pub walks-none : (o : Option Refusal) (f g : How) → walksUnless o f ≡ Walks g → (o ≡ none) × (f ≡ g)
 walks-none none f g e = (refl, cc)
@@ -45,38 +44,29 @@ refused-some none f r e = let z : _≡_ {A = ℕ} 0 1 = cc in absurd (omega arit
 refused-some (some q) f r e = cc
 
 module _ (s : List ℕ) (h : Handle) (path how : List ℕ) where
-  same-restrictions : (r : Restriction) → restrictionsFor (askOf s h (fieldsOf how) (endsInSlash path)) r ≡ restrictions (callOf h path how) r
-  unfolding restrictions
-  same-restrictions mark = refl
-  same-restrictions beneath = refl
-  same-restrictions noXdev = refl
-  same-restrictions noSymlinks = refl
-  same-restrictions noMagiclinks = refl
-
   -- the walk of what the call asks is the definition's answer
   pub asked : refusedBefore s h path how ≡ none
-      → answer (restrictionsFor (askOf s h (fieldsOf how) (endsInSlash path))) (walkPath (requestFor s (askOf s h (fieldsOf how) (endsInSlash path))) (has O-DIRECTORY (flagsOf how) || endsInSlash path) path) ≡ resolve s (callOf h path how)
-  unfolding resolve traceOf requestOf
-  asked e =
-      ap (λ R. answer R (walkPath (requestFor s (askOf s h (fieldsOf how) (endsInSlash path))) (has O-DIRECTORY (flagsOf how) || endsInSlash path) path)) (fun-ext same-restrictions)
-      ∙ rw e
+      → let k = numbersBy s h (fieldsOf how) (endsInSlash path) in
+      answer (restrictionsFor k) (walkPath (requestFor s k) (has O-DIRECTORY (flagsOf how) || endsInSlash path) path) ≡ resolve s (callOf h path how)
+  unfolding resolve traceOf requestOf restrictions
+  asked e = rw e
 
   pub refused-call : (r : Refusal) → refusedBefore s h path how ≡ some r → Refused r ≡ resolve s (callOf h path how)
   unfolding resolve
   refused-call r e = rw e
 
   -- the same from what the code has in hand
-  pub walked : (f : How) (slash : Bool) (k : Ask) (directory : Bool) → refusedBefore s h path how ≡ none → fieldsOf how ≡ f → slash ≡ endsInSlash path
-      → k ≡ askOf s h f slash → directory ≡ has O-DIRECTORY (f .flags) || slash
+  pub walked : (f : How) (slash : Bool) (k : Request) (directory : Bool) → refusedBefore s h path how ≡ none → fieldsOf how ≡ f → slash ≡ endsInSlash path
+      → k ≡ numbersBy s h f slash → directory ≡ has O-DIRECTORY (f .flags) || slash
       → answer (restrictionsFor k) (walkPath (requestFor s k) directory path) ≡ resolve s (callOf h path how)
   walked f slash k directory none-before fields slash-is k-is directory-is =
       ap₂ (λ x d. answer (restrictionsFor x) (walkPath (requestFor s x) d path))
-      (k-is ∙ ap₂ (askOf s h) (sym fields) slash-is)
+      (k-is ∙ ap₂ (numbersBy s h) (sym fields) slash-is)
       (directory-is ∙ ap₂ (λ (g : How) b. has O-DIRECTORY (g .flags) || b) (sym fields) slash-is)
       ∙ asked none-before
 
   -- and what the walk rests on
-  pub walking-of : (c : Counts) (f : How) (slash : Bool) (k : Ask) → Reading s c → refusedBefore s h path how ≡ none → k ≡ askOf s h f slash
+  pub walking-of : (c : Counts) (f : How) (slash : Bool) (k : Request) → Reading s c → refusedBefore s h path how ≡ none → k ≡ numbersBy s h f slash
       → Walking s c k × Inside (treeOf s) (k .handle) × (length path ≤ 4095)
   walking-of c f slash k reading none-before k-is =
       let un = unrefused s h path how none-before in

@@ -1,8 +1,6 @@
 // The resolver: a table image, a handle, a path and an open_how of any bytes to the answer.
 use call::CallRead;
 use call::check_call;
-use component::Ask;
-use image::records::mount_root;
 use image::records::read_counts;
 use model::Answer;
 use model::Errno;
@@ -12,13 +10,11 @@ use model::Progress;
 use model::State;
 use model::Verdict;
 use open_how::BENEATH;
-use open_how::How;
-use open_how::IN_ROOT;
 use open_how::O_DIRECTORY;
-use open_how::O_NOFOLLOW;
-use open_how::O_PATH;
 use open_how::has;
 use parts::records::Counts;
+use request::Request;
+use request::request_of;
 use state::finish;
 use state::stop;
 use table::check;
@@ -27,12 +23,12 @@ use text::is_absolute;
 use text::skip_slashes;
 use walk::Walk;
 use walk::run;
-ghost use mathlib.Core.Bool.{not, _||_};
+ghost use mathlib.Core.Bool.{_||_};
 ghost use mathlib.Core.Path.{_≡_};
 ghost use Prim.Native.Nat.{ℕ, _≤_};
 ghost use lib.ListN.{length};
 ghost use Rattle.model.specs.Bytes.{has};
-ghost use Rattle.model.specs.OpenHow.{O-DIRECTORY, O-NOFOLLOW, O-PATH};
+ghost use Rattle.model.specs.OpenHow.{O-DIRECTORY};
 ghost use Rattle.model.specs.Path.{endsInSlash};
 ghost use Rattle.model.specs.Tree.{treeOf};
 ghost use Rattle.model.specs.TableCheck.{tableCheck};
@@ -43,16 +39,15 @@ ghost use Rattle.model.specs.Resolve.{callOf, resolve};
 ghost use Rattle.model.specs.declared.Verdict.the-variants.{Accepted};
 ghost use Rattle.theorems.specs.Bounded.{Bounded};
 ghost use Rattle.laws.specs.Inside.{Inside};
-ghost use Rattle.component.specs.Outcomes.{requestFor, restrictionsFor};
-ghost use Rattle.component.specs.Walking.{Reading, Walking};
-ghost use Rattle.resolver.specs.Asking.{rootFor, askOf};
+ghost use Rattle.request.specs.Requests.{requestFor, restrictionsFor};
+ghost use Rattle.request.specs.Walking.{Walking};
 ghost use Rattle.resolver.specs.Comparing.{Compared};
 
 // A walk from a place: a path of slashes alone has no component.
 fn begin<'a>(
     image: &'a [u8],
     c: Counts,
-    k: Ask,
+    k: Request,
     path: &'a [u8],
     directory: bool,
     p: Place,
@@ -83,7 +78,7 @@ fn begin<'a>(
 }
 
 // Start is met by an absolute path, with both counts 0.
-fn walk_path<'a>(image: &'a [u8], c: Counts, k: Ask, path: &'a [u8], directory: bool) -> Answer
+fn walk_path<'a>(image: &'a [u8], c: Counts, k: Request, path: &'a [u8], directory: bool) -> Answer
     requires { ⌜ Walking (now image) c k × Inside (treeOf (now image)) (k .handle) × (length (now path) ≤ 4095) ⌝ }
     ensures { λ r. ⌜ r ≡ answer (restrictionsFor k) (walkPath (requestFor (now (image .entry)) k) directory (now (path .entry))) ⌝ }
 {
@@ -105,16 +100,6 @@ fn walk_path<'a>(image: &'a [u8], c: Counts, k: Ask, path: &'a [u8], directory: 
     begin(image, c, k, path, directory, root)
 }
 
-// "A last link is followed unless O_NOFOLLOW is set and the given path does not end in "/"."
-fn follows_last(flags: u64, slash: bool) -> bool
-    ensures { λ r. ⌜ r ≡ not (has O-NOFOLLOW flags) || slash ⌝ }
-{
-    if has(flags, O_NOFOLLOW) {
-        return slash;
-    }
-    true
-}
-
 // "A directory is required by O_DIRECTORY, by a "/" ending the path, .."
 fn needs_directory(flags: u64, slash: bool) -> bool
     ensures { λ r. ⌜ r ≡ has O-DIRECTORY flags || slash ⌝ }
@@ -123,44 +108,6 @@ fn needs_directory(flags: u64, slash: bool) -> bool
         return true;
     }
     slash
-}
-
-// "The root is the handle under IN_ROOT, else mount 0's root."
-fn root_of(image: &[u8], c: Counts, h: Handle, resolve: u64) -> Place
-    requires { ⌜ Reading (now image) c ⌝ }
-    ensures { λ r. ⌜ r ≡ rootFor (now (image .entry)) h resolve ⌝ }
-{
-    if has(resolve, IN_ROOT) {
-        return Place {
-            mount: h.mount,
-            node: h.node,
-        };
-    }
-    let node = mount_root(image, c, 0);
-    Place { mount: 0, node }
-}
-
-// What the walk is asked, from the handle and the open_how's fields.
-fn ask(image: &[u8], c: Counts, h: Handle, f: How, slash: bool) -> Ask
-    requires { ⌜ Reading (now image) c ⌝ }
-    ensures { λ r. ⌜ r ≡ askOf (now (image .entry)) h f slash ⌝ }
-{
-    let resolve = f.resolve;
-    let flags = f.flags;
-    let root = root_of(image, c, h, resolve);
-    let follow = follows_last(flags, slash);
-    let opath = has(flags, O_PATH);
-    Ask {
-        handle: Place {
-            mount: h.mount,
-            node: h.node,
-        },
-        root,
-        mark: h.mark,
-        resolve,
-        follow,
-        opath,
-    }
 }
 
 // The answer over a table that was accepted before, for a caller who checked it once.
@@ -174,7 +121,7 @@ pub fn resolve_accepted<'a>(image: &'a [u8], h: Handle, path: &'a [u8], how: &[u
     match read {
         CallRead::Walks(f) => {
             let slash = ends_in_slash(path);
-            let k = ask(image, c, h, f, slash);
+            let k = request_of(image, c, h, f, slash);
             walk_path(image, c, k, path, needs_directory(f.flags, slash))
         }
         CallRead::Refused(r) => Answer::Refused(r),

@@ -1,5 +1,4 @@
 // What becomes of a walk's state: a component taken, a place stood on, a link followed, an error, and the end.
-use component::Ask;
 use image::records::node_kind;
 use model::Answer;
 use model::Errno;
@@ -9,6 +8,7 @@ use model::Reached;
 use model::Refusal;
 use model::State;
 use parts::records::Counts;
+use request::Request;
 ghost use mathlib.Core.Bool.{_||_};
 ghost use mathlib.Core.Path.{_≡_};
 ghost use Prim.Native.Nat.{ℕ, _<_};
@@ -16,8 +16,8 @@ ghost use Rattle.model.specs.Tree.{treeOf};
 ghost use Rattle.model.specs.Answers.{refused};
 ghost use Rattle.model.specs.Walk.{taken, standingOn, followedTo, finish};
 ghost use Rattle.laws.specs.Inside.{Inside};
-ghost use Rattle.component.specs.Outcomes.{requestFor};
-ghost use Rattle.component.specs.Walking.{Walking};
+ghost use Rattle.request.specs.Requests.{requestFor};
+ghost use Rattle.request.specs.Walking.{Walking};
 
 // An error that stops the walk, with the counts that it stands at; no such error has a detail.
 pub fn stop(errno: Errno, progress: Progress) -> Answer
@@ -32,7 +32,7 @@ pub fn stop(errno: Errno, progress: Progress) -> Answer
 
 // The end: a directory where one is required, and no link without O_PATH. An accepted table has no kind but 1 to 4; any other is no
 // directory and no link.
-pub fn finish(image: &[u8], c: Counts, k: Ask, s: State) -> Answer
+pub fn finish(image: &[u8], c: Counts, k: Request, s: State) -> Answer
     requires { ⌜ Walking (now image) c k × Inside (treeOf (now image)) (s .place) ⌝ }
     ensures { λ r. ⌜ r ≡ finish (requestFor (now (image .entry)) k) s ⌝ }
 {

@@ -19,8 +19,8 @@ use Rattle.text.specs.Positions.{Stands, slashes, left}
 use Rattle.text.specs.Texts.{textOf}
 use Rattle.text.proofs.Components.{left-start, left-end, start-stands}
 use Rattle.text.proofs.Texts.{text-body, link-readable}
-use Rattle.component.specs.Walking.{Walking}
-use Rattle.component.specs.declared.Ask.{Ask}
+use Rattle.request.specs.Walking.{Walking}
+use Rattle.request.specs.declared.Request.{Request}
 use Rattle.component.specs.declared.Outcome.the-variants.{Go, Target, Read}
 use Rattle.parts.specs.declared.records.Counts.{Counts}
 use Rattle.walk.specs.OpenTexts.{leftIn, suspended, pending, linksLeft, Resting, Leads, Advanced, OutcomeInside, afterOutcome, proceed, Entered}
@@ -64,7 +64,7 @@ abbrev pub slashOf : List ℕ → List ℕ → List ℕ → Walk → ℕ → Boo
 slashOf s path stack w n = isEmpty (pending (treeOf s) path stack w) && endsInSlash (treeOf s .body n)
 
 -- a body and its components
-module _ {s path stack : List ℕ} {k : Ask} {c : Counts} {w : Walk} {n : ℕ} {p : Place} (walking : Walking s c k) (r : Resting s path stack w)
+module _ {s path stack : List ℕ} {k : Request} {c : Counts} {w : Walk} {n : ℕ} {p : Place} (walking : Walking s c k) (r : Resting s path stack w)
     (good : OutcomeInside (treeOf s) (w .state .progress .links) (Read n p)) where
   sound : Sound (treeOf s)
   sound = accepted-sound s (walking .reading .accepted)

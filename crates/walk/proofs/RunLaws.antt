@@ -14,16 +14,16 @@ use Rattle.laws.specs.Inside.{Inside}
 use Rattle.theorems.specs.Ordered.{OrderedOnward}
 use Rattle.laws.proofs.Acceptance.{accepted-sound}
 use Rattle.theorems.proofs.Steps.{Took, repeats, step-ordered, step-took}
-use Rattle.component.specs.Outcomes.{requestFor, restrictionsFor}
-use Rattle.component.specs.Walking.{Walking}
-use Rattle.component.specs.declared.Ask.{Ask}
+use Rattle.request.specs.Requests.{requestFor, restrictionsFor}
+use Rattle.request.specs.Walking.{Walking}
+use Rattle.request.specs.declared.Request.{Request}
 use Rattle.parts.specs.declared.records.Counts.{Counts}
 use Rattle.walk.specs.OpenTexts.{configuration, standsFor, Ready, rest, Held, Stepped}
 use Rattle.walk.specs.declared.Walk.{Walk}
 use Rattle.walk.specs.declared.Next.{Next}
 use Rattle.walk.specs.declared.Next.the-variants.{More, Done, Failed}
 
-module _ {s path stack after : List ℕ} {k : Ask} {c : Counts} {w : Walk} {r r′ : Next} (walking : Walking s c k) (here : Ready s path stack w)
+module _ {s path stack after : List ℕ} {k : Request} {c : Counts} {w : Walk} {r r′ : Next} (walking : Walking s c k) (here : Ready s path stack w)
     (stepped : Stepped s k path stack w after r) (is : r ≡ r′) where
   -- what the result stands for, by the case that it is
   leads : standsFor s path after r′ ≡ step (restrictionsFor k) (requestFor s k) (configuration s path stack w)
@@ -43,7 +43,7 @@ module _ {s path stack after : List ℕ} {k : Ask} {c : Counts} {w : Walk} {r r�
   same : answerAfter (restrictionsFor k) (requestFor s k) (standsFor s path after r′) ≡ rest s k path stack w
   same = ap (answerAfter (restrictionsFor k) (requestFor s k)) leads ∙ sym (repeats (restrictionsFor k) (requestFor s k) (configuration s path stack w))
 
-module _ {s path stack after : List ℕ} {k : Ask} {c : Counts} {w v : Walk} {r : Next} (walking : Walking s c k) (here : Ready s path stack w)
+module _ {s path stack after : List ℕ} {k : Request} {c : Counts} {w v : Walk} {r : Next} (walking : Walking s c k) (here : Ready s path stack w)
     (stepped : Stepped s k path stack w after r) (is : r ≡ More v) where
   pub further-ready : Ready s path after v
   further-ready = record { standing = held walking here stepped is; ordered = ordered walking here stepped is }
@@ -54,7 +54,7 @@ module _ {s path stack after : List ℕ} {k : Ask} {c : Counts} {w v : Walk} {r 
   pub goes-further : 83968 - v .state .progress .components < 83968 - w .state .progress .components
   goes-further = omega (arith, took walking here stepped is, further-ready .ordered .room .texts-left)
 
-module _ {s path stack after : List ℕ} {k : Ask} {c : Counts} {w : Walk} {end : State} {r : Next} (walking : Walking s c k) (here : Ready s path stack w)
+module _ {s path stack after : List ℕ} {k : Request} {c : Counts} {w : Walk} {end : State} {r : Next} (walking : Walking s c k) (here : Ready s path stack w)
     (stepped : Stepped s k path stack w after r) where
   pub ended-inside : r ≡ Done end → Inside (treeOf s) (end .place)
   ended-inside is = ordered walking here stepped is .0

@@ -23,9 +23,10 @@ use Rattle.reader.specs.Spans.{spanAt}
 use Rattle.text.specs.Texts.{textOf, between}
 use Rattle.reader.specs.declared.Span.{Span}
 use Rattle.text.proofs.Components.{left-here, next-stands}
-use Rattle.component.specs.Outcomes.{requestFor, restrictionsFor, stopOr, landingOutcome, outcome}
-use Rattle.component.specs.Walking.{Walking}
-use Rattle.component.specs.declared.Ask.{Ask}
+use Rattle.request.specs.Requests.{requestFor, restrictionsFor}
+use Rattle.component.specs.Outcomes.{stopOr, landingOutcome, outcome}
+use Rattle.request.specs.Walking.{Walking}
+use Rattle.request.specs.declared.Request.{Request}
 use Rattle.component.specs.declared.Outcome.{Outcome}
 use Rattle.component.specs.declared.Outcome.the-variants.{Go}
 use Rattle.parts.specs.declared.records.Counts.{Counts}
@@ -71,10 +72,10 @@ abbrev lastAt : List ℕ → List ℕ → List ℕ → Walk → Bool
 lastAt s path stack w = isEmpty (pending (treeOf s) path stack (behind s path w))
 
 -- where a name leads from a walk's place
-abbrev outcomeOf : List ℕ → Ask → Walk → Bool → List ℕ → Outcome
+abbrev outcomeOf : List ℕ → Request → Walk → Bool → List ℕ → Outcome
 outcomeOf s k w last name = outcome (restrictionsFor k) (w .state .progress .links) (oneComponent (requestFor s k) last (w .state .place) name)
 
-module _ {s path stack : List ℕ} {k : Ask} {c : Counts} {w : Walk} (walking : Walking s c k) (here : Ready s path stack w) where
+module _ {s path stack : List ℕ} {k : Request} {c : Counts} {w : Walk} (walking : Walking s c k) (here : Ready s path stack w) where
   one-pending : pending (treeOf s) path stack w ≡ componentAt (w .text) (textAt s path w) (w .at) ∷ pending (treeOf s) path stack (behind s path w)
   one-pending =
       ap (λ xs. xs ++ suspended (treeOf s) path stack (w .depth))

@@ -15,9 +15,9 @@ use Rattle.theorems.specs.Ordered.{Ordered}
 use Rattle.text.specs.Positions.{Stands, left}
 use Rattle.text.specs.Texts.{textOf, Readable}
 use Rattle.parts.specs.declared.records.Counts.{Counts}
-use Rattle.component.specs.Outcomes.{requestFor, restrictionsFor}
-use Rattle.component.specs.Walking.{Walking}
-use Rattle.component.specs.declared.Ask.{Ask}
+use Rattle.request.specs.Requests.{requestFor, restrictionsFor}
+use Rattle.request.specs.Walking.{Walking}
+use Rattle.request.specs.declared.Request.{Request}
 use Rattle.component.specs.declared.Outcome.{Outcome}
 use Rattle.component.specs.declared.Outcome.the-variants.{Stop, Go, Target, Read}
 use Rattle.walk.specs.declared.Walk.{Walk}
@@ -82,7 +82,7 @@ pub record Ready (s path stack : List ℕ) (w : Walk) : Type 0 where
   pub ordered : Ordered (treeOf s) (configuration s path stack w)
 
 -- what the definitions answer from a walk on
-abbrev pub rest : List ℕ → Ask → List ℕ → List ℕ → Walk → Answer
+abbrev pub rest : List ℕ → Request → List ℕ → List ℕ → Walk → Answer
 rest s k path stack w = answerFrom (restrictionsFor k) (requestFor s k) (configuration s path stack w)
 
 -- a walk that goes on stands at a component
@@ -101,7 +101,7 @@ abbrev pub Advanced : List ℕ → List ℕ → List ℕ → Walk → Next → T
 Advanced s path stack w r = Leads s path stack (onWith (linksLeft (w .state)) (pending (treeOf s) path stack w) (w .state)) r
 
 -- one step: the result stands for the definitions' step of what the walk stood for
-abbrev pub Stepped : List ℕ → Ask → List ℕ → List ℕ → Walk → List ℕ → Next → Type 0
+abbrev pub Stepped : List ℕ → Request → List ℕ → List ℕ → Walk → List ℕ → Next → Type 0
 Stepped s k path stack w after r = Leads s path after (step (restrictionsFor k) (requestFor s k) (configuration s path stack w)) r
 
 -- where an outcome leads is in the tree, and a followed link is not the 41st
@@ -123,7 +123,7 @@ abbrev pub proceed : List ℕ → List ℕ → List ℕ → Walk → Outcome →
 proceed s path stack w o = afterOutcome (treeOf s) (linksLeft (w .state)) (pending (treeOf s) path stack w) (w .state) o
 
 -- a walk behind a component that it has taken, with where that leads and whether it was the last
-pub record Behind (s : List ℕ) (c : Counts) (k : Ask) (path stack : List ℕ) (w : Walk) (last : Bool) (o : Outcome) : Type 0 where
+pub record Behind (s : List ℕ) (c : Counts) (k : Request) (path stack : List ℕ) (w : Walk) (last : Bool) (o : Outcome) : Type 0 where
   pub walking : Walking s c k
   pub resting : Resting s path stack w
   pub good : OutcomeInside (treeOf s) (w .state .progress .links) o

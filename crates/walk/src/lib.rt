@@ -1,5 +1,4 @@
 // The walk: a state that goes forward one component at a time over the open texts, and the run over it.
-use component::Ask;
 use component::Outcome;
 use component::take_component;
 use image::records::node_kind;
@@ -11,6 +10,7 @@ use model::State;
 use parts::records::Counts;
 use reader::at_end;
 use reader::next_component;
+use request::Request;
 use state::finish;
 use state::followed_to;
 use state::standing_on;
@@ -24,7 +24,7 @@ ghost use mathlib.Core.Bool.{_&&_};
 ghost use mathlib.Core.Path.{_≡_};
 ghost use lib.Dec.{eqb};
 ghost use Prim.Native.Nat.{ℕ, _≤_, _<_};
-ghost use Rattle.component.specs.Walking.{Walking};
+ghost use Rattle.request.specs.Walking.{Walking};
 ghost use Rattle.image.specs.Counts.{Counted};
 ghost use Rattle.walk.specs.OpenTexts.{rest, Resting, Ready, Advanced, Behind, Proceeded, Entered, Stepped};
 
@@ -116,7 +116,7 @@ fn enter_body<'a>(
 fn read_body<'a>(
     image: &'a [u8],
     c: Counts,
-    k: Ask,
+    k: Request,
     path: &'a [u8],
     stack: &mut [u32],
     w: Walk,
@@ -148,7 +148,7 @@ fn read_body<'a>(
 fn proceed<'a>(
     image: &'a [u8],
     c: Counts,
-    k: Ask,
+    k: Request,
     path: &'a [u8],
     stack: &mut [u32],
     w: Walk,
@@ -200,7 +200,7 @@ impl Walk {
         self,
         image: &'a [u8],
         c: Counts,
-        k: Ask,
+        k: Request,
         path: &'a [u8],
         stack: &mut [u32],
     ) -> Next
@@ -235,7 +235,7 @@ impl Walk {
 pub fn run<'a>(
     image: &'a [u8],
     c: Counts,
-    k: Ask,
+    k: Request,
     path: &'a [u8],
     w: Walk,
     stack: &mut [u32],

@@ -10,7 +10,8 @@ use Rattle.model.specs.Tree.{treeOf, lookup}
 use Rattle.model.specs.Walk.{stepTo, byName}
 use Rattle.laws.proofs.Acceptance.{accepted-sound, lookup-inside, entry-facts}
 use Rattle.parts.proofs.SearchLaws.{search-at, search-nowhere}
-use Rattle.component.specs.Outcomes.{requestFor, restrictionsFor, outcome}
+use Rattle.request.specs.Requests.{requestFor, restrictionsFor}
+use Rattle.component.specs.Outcomes.{outcome}
 use Rattle.component.proofs.by_name.Statement.{statement}
 use Rattle.component.proofs.by_name.Tie as tie
 

@@ -5,7 +5,7 @@ use denote.Ref.{now}
 use Rattle.model.specs.Tree.{treeOf, isLink}
 use Rattle.model.specs.Walk.{stepTo}
 use Rattle.laws.proofs.Acceptance.{accepted-sound}
-use Rattle.component.specs.Outcomes.{requestFor, restrictionsFor}
+use Rattle.request.specs.Requests.{requestFor, restrictionsFor}
 use Rattle.component.proofs.StepLaws.{no-link, stood-other}
 use Rattle.component.proofs.step_to.Statement.{statement}
 use Rattle.component.proofs.step_to.Tie as tie

@@ -5,7 +5,7 @@ use denote.Ref.{now}
 use Rattle.model.specs.Walk.{oneComponent}
 use Rattle.component.proofs.DotLaws.{one-dot, two-dots, no-dots}
 use Rattle.model.specs.Trace.{forbidAny}
-use Rattle.component.specs.Outcomes.{requestFor, restrictionsFor}
+use Rattle.request.specs.Requests.{requestFor, restrictionsFor}
 use Rattle.component.proofs.take_component.Statement.{statement}
 use Rattle.component.proofs.take_component.Tie as tie
 

@@ -1,6 +1,6 @@
 -- `resolver::resolve_accepted` meets its contract. Assumes nothing.
 use borrow.Author.Needs.{needs}
-use mathlib.Core.Path.{ap, _∙_, sym, refl, subst}
+use mathlib.Core.Path.{_∙_, sym, refl, subst}
 use native.Mathlib.Omega.{arith}
 use denote.Ref.{now}
 use Rattle.model.specs.Answers.{progressOf}
@@ -37,8 +37,8 @@ enum-known-read c = search needs
 ends-in-slash-requires : tie.Need-ends-in-slash-requires
 ends-in-slash-requires c κs = search needs
 
-ask-requires : tie.Need-ask-requires
-ask-requires c κs =
+request-of-requires : tie.Need-request-of-requires
+request-of-requires c κs =
     let args = c .before .before .before .before .before .before .before .before .before .args in
     let pre = c .before .before .before .before .before .before .before .before .before .pre in
     let read-counts = c .before .before .before .before .before .read-counts in
@@ -61,7 +61,7 @@ walk-path-requires c κs =
     let check-call = c .before .before .before .before .before .before .check-call in
     let read = c .before .before .before .before .read in
     let ends-in-slash = c .before .before .ends-in-slash in
-    let ask = c .before .ask in
+    let request = c .before .request-of in
     let s = now (args .image) in
     let path = now (args .path) in
     let how = now (args .how) in
@@ -69,7 +69,7 @@ walk-path-requires c κs =
     let r = read-counts .ensures in
     let counts : Counted s (read-counts .result) = counted (accepted-sized s (pre)) r in
     let b = walks-none (refusedBefore s h path how) (fieldsOf how) (read .given .0 .0) (sym (accepted-call s h path how (pre)) ∙ sym (check-call .ensures) ∙ read .given .1) in
-    walking-of s h path how (read-counts .result) (read .given .0 .0) (ends-in-slash .result) (ask .result) (record { counted = counts; accepted = pre }) (b .0) (ask .ensures)
+    walking-of s h path how (read-counts .result) (read .given .0 .0) (ends-in-slash .result) (request .result) (record { counted = counts; accepted = pre }) (b .0) (request .ensures)
 
 enum-known-read-2 : tie.Need-enum-known-read-2
 enum-known-read-2 c = search needs
@@ -83,14 +83,14 @@ returns c =
     let read = c .before .before .before .before .before .read in
     let ends-in-slash = c .before .before .before .ends-in-slash in
     let needs-directory = c .before .needs-directory in
-    let ask = c .before .before .ask in
+    let request = c .before .before .request-of in
     let s = now (args .image) in
     let path = now (args .path) in
     let how = now (args .how) in
     let h = args .h in
     let r = read-counts .ensures in
     let b = walks-none (refusedBefore s h path how) (fieldsOf how) (read .given .0 .0) (sym (accepted-call s h path how (pre)) ∙ sym (check-call .ensures) ∙ read .given .1) in
-    let e = c .walk-path .ensures ∙ walked s h path how (read .given .0 .0) (ends-in-slash .result) (ask .result) (needs-directory .result) (b .0) (b .1) (ends-in-slash .ensures) (ask .ensures) (needs-directory .ensures) in
+    let e = c .walk-path .ensures ∙ walked s h path how (read .given .0 .0) (ends-in-slash .result) (request .result) (needs-directory .result) (b .0) (b .1) (ends-in-slash .ensures) (request .ensures) (needs-directory .ensures) in
     (e, subst (λ a. Bounded (progressOf a)) (sym e) (every-walk-bounded s (callOf h path how)), refl, refl, refl)
 
 returns-2 : tie.Need-returns-2
@@ -116,7 +116,7 @@ resolve-accepted-spec =
     check-call-requires
     enum-known-read
     ends-in-slash-requires
-    ask-requires
+    request-of-requires
     needs-directory-requires
     walk-path-requires
     enum-known-read-2

@@ -3,7 +3,7 @@ use mathlib.Core.Logic.{⊎-elim}
 use mathlib.Core.Path.{_≡_, _∙_, sym}
 use native.Mathlib.Omega.{arith}
 use denote.Ref.{now}
-use Rattle.component.specs.Outcomes.{requestFor}
+use Rattle.request.specs.Requests.{requestFor}
 use Rattle.state.proofs.EndLaws.{end-directory, end-required, end-other, end-link-path, end-link}
 use Rattle.state.proofs.finish.Statement.{statement}
 use Rattle.state.proofs.finish.Tie as tie

@@ -12,7 +12,7 @@ use Rattle.model.specs.Walk.{placeAt, magicLink}
 use Rattle.component.specs.declared.Outcome.the-variants.{Target}
 use Rattle.component.proofs.RowLaws.{link-row, magic-row}
 use Rattle.model.specs.Trace.{forbidAny}
-use Rattle.component.specs.Outcomes.{restrictionsFor}
+use Rattle.request.specs.Requests.{restrictionsFor}
 use Rattle.component.proofs.links.follow_magic.Statement.{statement}
 use Rattle.component.proofs.links.follow_magic.Tie as tie
 

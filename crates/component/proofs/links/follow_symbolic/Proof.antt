@@ -13,7 +13,7 @@ use Rattle.laws.proofs.Acceptance.{accepted-sound, symlink-facts}
 use Rattle.component.proofs.LimitLaws.{barred-link}
 use Rattle.component.proofs.RowLaws.{link-row, jump-row}
 use Rattle.model.specs.Trace.{forbidAny}
-use Rattle.component.specs.Outcomes.{requestFor, restrictionsFor}
+use Rattle.request.specs.Requests.{requestFor, restrictionsFor}
 use Rattle.component.proofs.links.follow_symbolic.Statement.{statement}
 use Rattle.component.proofs.links.follow_symbolic.Tie as tie
 

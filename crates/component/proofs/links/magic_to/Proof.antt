@@ -5,7 +5,7 @@ use mathlib.Core.Path.{_≡_, sym, _∙_}
 use native.Mathlib.Omega.{arith}
 use denote.Ref.{now}
 use Rattle.laws.proofs.Acceptance.{accepted-sound}
-use Rattle.component.specs.Outcomes.{requestFor, restrictionsFor}
+use Rattle.request.specs.Requests.{requestFor, restrictionsFor}
 use Rattle.component.proofs.LimitLaws.{magic-open, magic-spent}
 use Rattle.component.proofs.StepLaws.{stood-link, magic-step}
 use Rattle.component.proofs.links.magic_to.Statement.{statement}

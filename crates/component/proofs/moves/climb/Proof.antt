@@ -10,7 +10,8 @@ use Rattle.model.specs.Tree.{treeOf, isDirectory}
 use Rattle.model.specs.Trace.{forbids, row, firstSet, forbidAny}
 use Rattle.model.specs.Walk.{placeAt, pointOf, toParent, climb}
 use Rattle.laws.proofs.Acceptance.{accepted-sound, point-directory, mount-parent-below}
-use Rattle.component.specs.Outcomes.{restrictionsBy, moveOutcome}
+use Rattle.model.specs.Resolve.{restrictionsBy}
+use Rattle.component.specs.Outcomes.{moveOutcome}
 use Rattle.component.proofs.moves.climb.Statement.{statement}
 use Rattle.component.proofs.moves.climb.Tie as tie
 

@@ -6,7 +6,8 @@ use denote.Ref.{now}
 use Rattle.model.specs.Tree.{treeOf}
 use Rattle.model.specs.Walk.{placeAt, enter, toParent}
 use Rattle.laws.proofs.Acceptance.{accepted-sound, parent-directory, directory-below}
-use Rattle.component.specs.Outcomes.{restrictionsBy, moveOutcome}
+use Rattle.model.specs.Resolve.{restrictionsBy}
+use Rattle.component.specs.Outcomes.{moveOutcome}
 use Rattle.component.proofs.moves.to_parent.Statement.{statement}
 use Rattle.component.proofs.moves.to_parent.Tie as tie
 

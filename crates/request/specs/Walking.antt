@@ -8,7 +8,7 @@ use Rattle.model.specs.declared.Verdict.the-variants.{Accepted}
 use Rattle.laws.specs.Inside.{Inside}
 use Rattle.image.specs.Counts.{Counted}
 use Rattle.parts.specs.declared.records.Counts.{Counts}
-use Rattle.component.specs.declared.Ask.{Ask}
+use Rattle.request.specs.declared.Request.{Request}
 
 -- an accepted table, with its counts
 pub record Reading (s : List ℕ) (c : Counts) : Type 0 where
@@ -16,6 +16,6 @@ pub record Reading (s : List ℕ) (c : Counts) : Type 0 where
   pub accepted : tableCheck s ≡ Accepted
 
 -- and a walk over it, whose root is a place of the tree
-pub record Walking (s : List ℕ) (c : Counts) (k : Ask) : Type 0 where
+pub record Walking (s : List ℕ) (c : Counts) (k : Request) : Type 0 where
   pub reading : Reading s c
   pub root-inside : Inside (treeOf s) (k .root)

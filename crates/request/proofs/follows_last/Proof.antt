@@ -1,9 +1,8 @@
--- `resolver::follows_last` meets its contract. Assumes nothing.
-use borrow.Author.Needs.{needs}
+-- `request::follows_last` meets its contract. Assumes nothing.
 use mathlib.Core.Path.{_∙_, sym}
 use native.Mathlib.Omega.{arith}
-use Rattle.resolver.proofs.follows_last.Statement.{statement}
-use Rattle.resolver.proofs.follows_last.Tie as tie
+use Rattle.request.proofs.follows_last.Statement.{statement}
+use Rattle.request.proofs.follows_last.Tie as tie
 
 has-requires : tie.Need-has-requires
 has-requires c κs = omega arith
