@@ -16,7 +16,8 @@ use Rattle.laws.proofs.Cases.{both}
 point-is : (t : Tree) (p : Place) (m : ℕ) → mountOn t p ≡ some m → t .mountPoint m ≡ p .node
 unfolding mountOn
 point-is t p m e =
-    eqb-true _ _ (both (eqb (t .mountParent m) (p .mount)) (eqb (t .mountPoint m) (p .node)) (find-some (λ k. eqb (t .mountParent k) (p .mount) && eqb (t .mountPoint k) (p .node)) 1 (t .mounts - 1) m e .passes) .1)
+    let found = find-some (λ k. eqb (t .mountParent k) (p .mount) && eqb (t .mountPoint k) (p .node)) 1 (t .mounts - 1) m e in
+    eqb-true _ _ (both (eqb (t .mountParent m) (p .mount)) (eqb (t .mountPoint m) (p .node)) (found .passes) .1)
 
 uncovered-by : (t : Tree) → MountsHold t → (p : Place) → isDirectory t (p .node) ≡ false → (o : Option ℕ) → mountOn t p ≡ o → o ≡ none
 uncovered-by t mounts p d none e = refl

@@ -2,6 +2,7 @@
 use Prim.Native.Nat.{ℕ}
 use mathlib.Core.Bool.{Bool, true, false, not, _&&_, _||_, and-false}
 use mathlib.Core.Path.{_≡_, ap, _∙_}
+use native.Mathlib.Omega.{arith}
 use borrow.Author.Tests.{ne-eqb}
 use Rattle.model.specs.Tree.{Tree, isLink}
 use Rattle.model.specs.Trace.{Restrictions, forbidAny}
@@ -9,7 +10,7 @@ use Rattle.model.specs.Walk.{Request, placeAt, magicLink, symbolicLink, followL
 use Rattle.model.specs.declared.Place.{Place}
 use Rattle.laws.specs.Acceptance.{MountsHold}
 use Rattle.laws.proofs.EntryLaws.{not-directory}
-use Rattle.component.specs.Outcomes.{outcome}
+use Rattle.component.specs.Outcomes.{outcome, linkKind}
 use Rattle.component.specs.declared.Outcome.the-variants.{Go}
 use Rattle.component.proofs.EnterLaws.{not-entered}
 
@@ -31,10 +32,23 @@ module _ (R : Restrictions) (links : ℕ) (a : Request) (last : Bool) (p : Place
   pub stood-link : MountsHold (a .tree) → (a .tree .kind n ≡ 1 → ⊥) → (not last || a .followLast) ≡ false → Stood
   stood-link mounts d f = stood mounts d (ap (λ (b : Bool). isLink (a .tree) n && b) f ∙ and-false (isLink (a .tree) n))
 
-  pub magic-step : a .tree .kind n ≡ 4 → (not last || a .followLast) ≡ true → outcome R links (stepTo a last p n) ≡ outcome R links (magicLink a p n)
-  unfolding stepTo followLink isLink
-  magic-step e f = rw (e, f)
+  pub link-step : isLink (a .tree) n ≡ true → (not last || a .followLast) ≡ true → outcome R links (stepTo a last p n) ≡ outcome R links (followLink a p n)
+  unfolding stepTo
+  link-step e f = rw (e, f)
 
-  pub symbolic-step : a .tree .kind n ≡ 3 → (not last || a .followLast) ≡ true → outcome R links (stepTo a last p n) ≡ outcome R links (symbolicLink a p n)
-  unfolding stepTo followLink isLink
-  symbolic-step e f = rw (e, f)
+pub is-link : (t : Tree) (n : ℕ) (magic : Bool) → t .kind n ≡ linkKind magic → isLink t n ≡ true
+unfolding isLink
+is-link t n true e = rw e
+is-link t n false e = rw e
+
+pub link-no-directory : (magic : Bool) {kind : ℕ} → kind ≡ linkKind magic → kind ≡ 1 → ⊥
+link-no-directory true e f = omega arith
+link-no-directory false e f = omega arith
+
+pub magic-followed : (a : Request) (p : Place) (n : ℕ) → a .tree .kind n ≡ 4 → followLink a p n ≡ magicLink a p n
+unfolding followLink
+magic-followed a p n e = rw e
+
+pub symbolic-followed : (a : Request) (p : Place) (n : ℕ) → a .tree .kind n ≡ 3 → followLink a p n ≡ symbolicLink a p n
+unfolding followLink
+symbolic-followed a p n e = rw e

@@ -48,6 +48,10 @@ outcome R links (follow es l) = cond (ltb links 40) (stopOr (forbidAny R es) (la
 abbrev pub upFrom : Request → Place → Move
 upFrom a p = cond (atTop a p) (stayAt p) (climb (a .tree) p)
 
+-- the kind of a magic link, or of a symbolic one
+abbrev pub linkKind : Bool → ℕ
+linkKind magic = cond magic 4 3
+
 -- "." is 1, ".." is 2, any other name 0
 abbrev pub dotsOf : List ℕ → ℕ
 dotsOf s = cond (sameBytes s (ascii ".")) 1 (cond (sameBytes s (ascii "..")) 2 0)

@@ -2,8 +2,7 @@
 mod links;
 mod moves;
 
-use crate::links::magic_to;
-use crate::links::symbolic_to;
+use crate::links::link_to;
 use crate::moves::enter;
 use crate::moves::go_up;
 use image::records::entry_node;
@@ -16,7 +15,7 @@ use request::Request;
 use tree::find_entry;
 ghost use mathlib.Core.Bool.{true};
 ghost use mathlib.Core.Path.{_≡_};
-ghost use Prim.Native.Nat.{ℕ, _≤_, _<_};
+ghost use Prim.Native.Nat.{_<_};
 ghost use Rattle.model.specs.Tree.{treeOf, isDirectory};
 ghost use Rattle.model.specs.Walk.{stepTo, byName, oneComponent};
 ghost use Rattle.laws.specs.Inside.{Inside};
@@ -55,8 +54,8 @@ fn step_to(
     match kind {
         1 => enter(image, c, k.resolve, there),
         2 => Outcome::Go(there),
-        3 => symbolic_to(image, c, k, last, links, p, n),
-        4 => magic_to(image, c, k, last, links, p, n),
+        3 => link_to(image, c, k, last, links, p, n, false),
+        4 => link_to(image, c, k, last, links, p, n, true),
         _ => Outcome::Go(there),
     }
 }

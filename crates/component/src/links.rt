@@ -17,13 +17,13 @@ use text::is_absolute;
 ghost use mathlib.Core.Bool.{not, _&&_, _||_};
 ghost use lib.Dec.{eqb, ltb};
 ghost use mathlib.Core.Path.{_≡_};
-ghost use Prim.Native.Nat.{ℕ, _<_};
+ghost use Prim.Native.Nat.{_<_};
 ghost use Rattle.model.specs.Bytes.{has};
 ghost use Rattle.model.specs.OpenHow.{NO-XDEV};
 ghost use Rattle.model.specs.Tree.{treeOf};
 ghost use Rattle.model.specs.Walk.{magicLink, symbolicLink, stepTo};
 ghost use Rattle.request.specs.Requests.{requestFor, restrictionsFor};
-ghost use Rattle.component.specs.Outcomes.{outcome, unlimited};
+ghost use Rattle.component.specs.Outcomes.{outcome, unlimited, linkKind};
 ghost use Rattle.laws.specs.Acceptance.{Sized};
 ghost use Rattle.request.specs.Walking.{Walking};
 
@@ -106,8 +106,8 @@ fn is_spent(links: usize) -> bool
     40 <= links
 }
 
-// A magic link: followed, or a place to stand on.
-pub fn magic_to(
+// A link, magic or symbolic: followed, or a place to stand on.
+pub fn link_to(
     image: &[u8],
     c: Counts,
     k: Request,
@@ -115,8 +115,9 @@ pub fn magic_to(
     links: usize,
     p: Place,
     n: usize,
+    magic: bool,
 ) -> Outcome
-    requires { ⌜ Walking (now image) c k × (n < treeOf (now image) .nodes) × (treeOf (now image) .kind n ≡ 4) ⌝ }
+    requires { ⌜ Walking (now image) c k × (n < treeOf (now image) .nodes) × (treeOf (now image) .kind n ≡ linkKind magic) ⌝ }
     ensures { λ r. ⌜ r ≡ outcome (restrictionsFor k) links (stepTo (requestFor (now (image .entry)) k) last p n) ⌝ }
 {
     if !is_followed(last, k.follow) {
@@ -128,30 +129,8 @@ pub fn magic_to(
     if is_spent(links) {
         return Outcome::Stop(Errno::Eloop);
     }
-    follow_magic(image, k, p, n)
-}
-
-// A symbolic link: followed, or a place to stand on.
-pub fn symbolic_to(
-    image: &[u8],
-    c: Counts,
-    k: Request,
-    last: bool,
-    links: usize,
-    p: Place,
-    n: usize,
-) -> Outcome
-    requires { ⌜ Walking (now image) c k × (n < treeOf (now image) .nodes) × (treeOf (now image) .kind n ≡ 3) ⌝ }
-    ensures { λ r. ⌜ r ≡ outcome (restrictionsFor k) links (stepTo (requestFor (now (image .entry)) k) last p n) ⌝ }
-{
-    if !is_followed(last, k.follow) {
-        return Outcome::Go(Place {
-            mount: p.mount,
-            node: n,
-        });
-    }
-    if is_spent(links) {
-        return Outcome::Stop(Errno::Eloop);
+    if magic {
+        return follow_magic(image, k, p, n);
     }
     follow_symbolic(image, c, k, p, n)
 }

@@ -11,7 +11,7 @@ use parts::records::Counts;
 use request::Request;
 ghost use mathlib.Core.Bool.{_||_};
 ghost use mathlib.Core.Path.{_≡_};
-ghost use Prim.Native.Nat.{ℕ, _<_};
+ghost use Prim.Native.Nat.{_<_};
 ghost use Rattle.model.specs.Tree.{treeOf};
 ghost use Rattle.model.specs.Answers.{refused};
 ghost use Rattle.model.specs.Walk.{taken, standingOn, followedTo, finish};

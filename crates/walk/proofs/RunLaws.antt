@@ -2,12 +2,12 @@
 -- Assumes nothing.
 use Prim.Native.Nat.{ℕ, _+_, _-_, _<_}
 use mathlib.Core.List.{List}
-use mathlib.Core.Path.{_≡_, refl, sym, ap, _∙_, subst}
+use mathlib.Core.Path.{_≡_, sym, ap, _∙_, subst}
 use native.Mathlib.Omega.{arith}
 use Rattle.model.specs.Tree.{treeOf}
 use Rattle.model.specs.Answers.{refused}
 use Rattle.model.specs.Walk.{finish}
-use Rattle.model.specs.Step.{Onward, more, done, failed, step, answerAfter}
+use Rattle.model.specs.Step.{step, answerAfter}
 use Rattle.model.specs.declared.Errno.{Errno}
 use Rattle.model.specs.declared.State.{State}
 use Rattle.laws.specs.Inside.{Inside}

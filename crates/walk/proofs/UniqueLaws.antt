@@ -1,10 +1,10 @@
 -- A step's promise leaves one answer: two results that both meet it are equal, and so are the two stacks as far as they count. Above the
 -- depth a stack is free. Assumes nothing.
-use Prim.Native.Nat.{ℕ, zero, suc, _/_, _%_, _<_}
+use Prim.Native.Nat.{ℕ, zero, suc, _<_}
 use mathlib.Core.Bool.{true, false, true≢false}
-use mathlib.Core.List.{List, [], _∷_, _++_, append-cancel-left}
+use mathlib.Core.List.{List, _∷_, _++_, append-cancel-left}
 use mathlib.Core.Logic.{⊎-elim}
-use mathlib.Core.Path.{_≡_, refl, sym, ap, ap₂, _∙_, subst}
+use mathlib.Core.Path.{_≡_, refl, sym, ap, ap₂, _∙_}
 use native.Mathlib.Nat.{le-refl, eq-or-lt-of-le}
 use native.Mathlib.Omega.{arith}
 use borrow.Author.Tests.{ne-eqb}
@@ -13,10 +13,10 @@ use Rattle.model.specs.Tree.{Tree, treeOf}
 use Rattle.model.specs.Path.{Component}
 use Rattle.model.specs.Step.{Configuration, Onward, more, done, failed}
 use Rattle.model.specs.Walk.{isEmpty}
-use Rattle.text.specs.Positions.{componentAt, left}
+use Rattle.text.specs.Positions.{componentAt}
 use Rattle.text.specs.Texts.{textOf}
 use Rattle.text.proofs.Components.{left-here}
-use Rattle.walk.specs.OpenTexts.{leftIn, suspended, pending, configuration, standsFor, Placed, Suspended, Standing, Leads}
+use Rattle.walk.specs.OpenTexts.{leftIn, suspended, pending, configuration, Placed, Suspended, Standing, Leads}
 use Rattle.walk.proofs.PendingLaws.{suspended-empty}
 use Rattle.walk.specs.declared.Walk.{Walk}
 use Rattle.walk.specs.declared.Next.{Next}

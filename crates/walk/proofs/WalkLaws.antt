@@ -10,7 +10,7 @@ use Rattle.model.specs.Path.{Component}
 use Rattle.model.specs.Tree.{isDirectory}
 use Rattle.model.specs.Trace.{Restrictions, forbidAny}
 use Rattle.model.specs.Walk.{Request, Landing, outside, target, reading, Step, fail, go, follow, taken, isEmpty, land, transitionBy, transition, oneComponent}
-use Rattle.model.specs.Step.{Onward, failed, onWith, nextBy, failedBy, restricted, stepOf}
+use Rattle.model.specs.Step.{failed, nextBy, failedBy, restricted, stepOf}
 use Rattle.model.specs.declared.State.{State}
 use Rattle.model.specs.declared.Errno.{Errno}
 use Rattle.model.specs.declared.Errno.the-variants.{Enotdir}

@@ -23,7 +23,7 @@ use text::text_of;
 ghost use mathlib.Core.Bool.{_&&_};
 ghost use mathlib.Core.Path.{_≡_};
 ghost use lib.Dec.{eqb};
-ghost use Prim.Native.Nat.{ℕ, _≤_, _<_};
+ghost use Prim.Native.Nat.{_≤_, _<_};
 ghost use Rattle.request.specs.Walking.{Walking};
 ghost use Rattle.image.specs.Counts.{Counted};
 ghost use Rattle.walk.specs.OpenTexts.{rest, Resting, Ready, Advanced, Behind, Proceeded, Entered, Stepped};

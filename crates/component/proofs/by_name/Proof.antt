@@ -27,8 +27,9 @@ enum-known-found c = search needs
 
 entry-node-requires : tie.Need-entry-node-requires
 entry-node-requires c κs =
-    let args = c .before .before .before .before .before .before .before .args in
-    let pre = c .before .before .before .before .before .before .before .pre in
+    let start = c .before .before .before .before .before .before .before in
+    let args = start .args in
+    let pre = start .pre in
     let find-entry = c .before .before .before .find-entry in
     let found = c .before .found in
     let t = treeOf (now (args .image)) in
@@ -38,8 +39,9 @@ entry-node-requires c κs =
 
 step-to-requires : tie.Need-step-to-requires
 step-to-requires c κs =
-    let args = c .before .before .before .before .before .before .before .before .args in
-    let pre = c .before .before .before .before .before .before .before .before .pre in
+    let start = c .before .before .before .before .before .before .before .before in
+    let args = start .args in
+    let pre = start .pre in
     let find-entry = c .before .before .before .before .find-entry in
     let found = c .before .before .found in
     let t = treeOf (now (args .image)) in

@@ -20,14 +20,14 @@ enter-requires c κs =
     let pre = c .before .before .before .pre in
     (pre .0 .reading, record { mount-below = pre .1 .mount-below; node-below = pre .2 })
 
-symbolic-to-requires : tie.Need-symbolic-to-requires
-symbolic-to-requires c κs =
+link-to-requires : tie.Need-link-to-requires
+link-to-requires c κs =
     let pre = c .before .before .before .pre in
     let node-kind = c .before .node-kind in
     (pre .0, pre .2, sym (node-kind .ensures .0) ∙ c .match .keys3)
 
-magic-to-requires : tie.Need-magic-to-requires
-magic-to-requires c κs =
+link-to-requires-2 : tie.Need-link-to-requires-2
+link-to-requires-2 c κs =
     let pre = c .before .before .before .pre in
     let node-kind = c .before .node-kind in
     (pre .0, pre .2, sym (node-kind .ensures .0) ∙ c .match .keys4)
@@ -41,23 +41,25 @@ returns c =
 
 returns-2 : tie.Need-returns-2
 returns-2 c =
-    let a = c .before .before .before .args in
+    let start = c .before .before .before in
+    let a = start .args in
     let t = treeOf (now (a .image)) in
     let kind : t .kind (a .n) ≡ 2 = sym (c .before .node-kind .ensures .0) ∙ c .match .keys2 in
-    let sound = accepted-sound (now (a .image)) (c .before .before .before .pre .0 .reading .accepted) in
+    let sound = accepted-sound (now (a .image)) (start .pre .0 .reading .accepted) in
     let stood = stood-other (restrictionsFor (a .k)) (a .links) (requestFor (now (a .image)) (a .k)) (a .last) (a .p) (a .n) in
     stood (sound .mounts-hold) (λ e. omega arith) (no-link t (a .n) (λ e. omega arith) (λ e. omega arith))
 
 returns-3 : tie.Need-returns-3
-returns-3 c = c .symbolic-to .ensures
+returns-3 c = c .link-to .ensures
 
 returns-4 : tie.Need-returns-4
-returns-4 c = c .magic-to .ensures
+returns-4 c = c .link-to2 .ensures
 
 returns-5 : tie.Need-returns-5
 returns-5 c =
-    let args = c .before .before .before .args in
-    let pre = c .before .before .before .pre in
+    let start = c .before .before .before in
+    let args = start .args in
+    let pre = start .pre in
     let node-kind = c .before .node-kind in
     let t = treeOf (now (args .image)) in
     let kind = node-kind .ensures .0 in
@@ -71,8 +73,8 @@ step-to-spec =
     (tie.spec
     node-kind-requires
     enter-requires
-    symbolic-to-requires
-    magic-to-requires
+    link-to-requires
+    link-to-requires-2
     returns
     returns-2
     returns-3

@@ -22,26 +22,25 @@ returns : tie.Need-returns
 unfolding oneComponent forbidAny
 returns c =
     let args = c .before .before .before .before .args in
-    let dots = c .before .dots in
-    sym (one-dot (restrictionsFor (args .k)) (args .links) (requestFor (now (args .image)) (args .k)) (args .last) (args .p) (now (args .name)) (sym (dots .ensures) ∙ c .match .keys1))
+    let a = requestFor (now (args .image)) (args .k) in
+    let is-dot = sym (c .before .dots .ensures) ∙ c .match .keys1 in
+    sym (one-dot (restrictionsFor (args .k)) (args .links) a (args .last) (args .p) (now (args .name)) is-dot)
 
 returns-2 : tie.Need-returns-2
 returns-2 c =
     let args = c .before .before .before .before .before .args in
-    let dots = c .before .before .dots in
-    let matched = c .before .match in
-    let match′ = matched in
-    c .go-up .ensures
-    ∙ sym (two-dots (restrictionsFor (args .k)) (args .links) (requestFor (now (args .image)) (args .k)) (args .last) (args .p) (now (args .name)) (sym (dots .ensures) ∙ match′ .keys2))
+    let a = requestFor (now (args .image)) (args .k) in
+    let are-dots = sym (c .before .before .dots .ensures) ∙ c .before .match .keys2 in
+    c .go-up .ensures ∙ sym (two-dots (restrictionsFor (args .k)) (args .links) a (args .last) (args .p) (now (args .name)) are-dots)
 
 returns-3 : tie.Need-returns-3
 returns-3 c =
     let args = c .before .before .before .before .before .args in
-    let dots = c .before .before .dots in
-    let matched = c .before .match in
-    let match′ = matched in
-    c .by-name .ensures
-    ∙ sym (no-dots (restrictionsFor (args .k)) (args .links) (requestFor (now (args .image)) (args .k)) (args .last) (args .p) (now (args .name)) (λ e. match′ .rest .0 .1 (dots .ensures ∙ e)) (λ e. match′ .rest .1 (dots .ensures ∙ e)))
+    let a = requestFor (now (args .image)) (args .k) in
+    let dots = c .before .before .dots .ensures in
+    let other = c .before .match .rest in
+    let named = no-dots (restrictionsFor (args .k)) (args .links) a (args .last) (args .p) (now (args .name)) in
+    c .by-name .ensures ∙ sym (named (λ e. other .0 .1 (dots ∙ e)) (λ e. other .1 (dots ∙ e)))
 
 pub take-component-spec : {M : Type 1} → statement M
 take-component-spec =

@@ -1,6 +1,6 @@
 -- `state::finish` meets its contract: one arm for each kind, and one for the other numbers. Assumes nothing.
 use mathlib.Core.Logic.{⊎-elim}
-use mathlib.Core.Path.{_≡_, _∙_, sym}
+use mathlib.Core.Path.{_∙_, sym}
 use native.Mathlib.Omega.{arith}
 use denote.Ref.{now}
 use Rattle.request.specs.Requests.{requestFor}
@@ -59,8 +59,9 @@ returns-4 c =
 
 returns-5 : tie.Need-returns-5
 returns-5 c =
-    let a = c .before .before .before .before .before .args in
-    let pre = c .before .before .before .before .before .pre in
+    let start = c .before .before .before .before .before in
+    let a = start .args in
+    let pre = start .pre in
     let node-kind = c .before .node-kind in
     end-directory (requestFor (now (a .image)) (a .k)) (a .s) (pre .1 .node-below) (sym (node-kind .ensures .0) ∙ c .match .keys1)
 

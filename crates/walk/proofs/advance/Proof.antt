@@ -5,7 +5,6 @@ use mathlib.Core.Path.{ap}
 use native.Mathlib.Omega.{arith}
 use borrow.Author.Tests.{not-true, not-false}
 use lib.ListN.{length}
-use denote.Ref.{now}
 use Rattle.walk.proofs.PendingLaws.{ended, unended, advanced-here, advanced-end, advanced-back}
 use Rattle.walk.proofs.advance.Statement.{statement}
 use Rattle.walk.proofs.advance.Tie as tie
@@ -54,8 +53,9 @@ sub-t16 c = search needs
 
 returns-3 : tie.Need-returns-3
 returns-3 c =
-    let args = c .before .before .before .before .before .before .before .before .before .args in
-    let pre = c .before .before .before .before .before .before .before .before .before .pre in
+    let start = c .before .before .before .before .before .before .before .before .before in
+    let args = start .args in
+    let pre = start .pre in
     let text-of = c .before .before .before .before .before .text-of in
     let at-end = c .before .before .before .before .at-end in
     let if1 = c .before .before .before .if1 in

@@ -37,8 +37,9 @@ same-length c = search needs
 
 returns : tie.Need-returns
 returns c =
-    let args = c .before .before .before .before .before .before .args in
-    let pre = c .before .before .before .before .before .before .pre in
+    let start = c .before .before .before .before .before .before in
+    let args = start .args in
+    let pre = start .pre in
     let text-of = c .before .before .text-of in
     let at-end = c .before .at-end in
     let at-text = unended _ _ (at-end .ensures) (text-of .ensures) (not-true _ (c .if1 .taken)) (pre .1 .placed .stands .within) in
@@ -46,8 +47,9 @@ returns c =
 
 returns-2 : tie.Need-returns-2
 returns-2 c =
-    let args = c .before .before .before .before .before .before .args in
-    let pre = c .before .before .before .before .before .before .pre in
+    let start = c .before .before .before .before .before .before in
+    let args = start .args in
+    let pre = start .pre in
     let text-of = c .before .before .text-of in
     let at-end = c .before .at-end in
     let at-text = ended _ _ (at-end .ensures) (text-of .ensures) (not-false _ (c .if1 .left)) in

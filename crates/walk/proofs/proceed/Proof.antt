@@ -22,8 +22,9 @@ standing-on-requires c κs = search needs
 
 advance-requires : tie.Need-advance-requires
 advance-requires c κs =
-    let args = c .before .before .before .before .before .before .before .before .before .args in
-    let pre = c .before .before .before .before .before .before .before .before .before .pre in
+    let start = c .before .before .before .before .before .before .before .before .before in
+    let args = start .args in
+    let pre = start .pre in
     let o2 = c .before .before .before .o2 in
     let standing-on = c .before .standing-on in
     let R : State → Type 0 = λ st. Resting (now (args .image)) (now (args .path)) (now (args .stack)) (inState (args .w) st) in
@@ -34,15 +35,17 @@ enum-known-o-3 c = search needs
 
 followed-to-requires : tie.Need-followed-to-requires
 followed-to-requires c κs =
-    let args = c .before .before .before .before .before .before .before .args in
-    let pre = c .before .before .before .before .before .before .before .pre in
+    let start = c .before .before .before .before .before .before .before in
+    let args = start .args in
+    let pre = start .pre in
     let o3 = c .before .o3 in
     subst (OutcomeInside (treeOf (now (args .image))) (args .w .state .progress .links)) (o3 .given .1) (pre .good) .1
 
 advance-requires-2 : tie.Need-advance-requires-2
 advance-requires-2 c κs =
-    let args = c .before .before .before .before .before .before .before .before .before .args in
-    let pre = c .before .before .before .before .before .before .before .before .before .pre in
+    let start = c .before .before .before .before .before .before .before .before .before in
+    let args = start .args in
+    let pre = start .pre in
     let o3 = c .before .before .before .o3 in
     let followed-to = c .before .followed-to in
     let good = subst (OutcomeInside (treeOf (now (args .image))) (args .w .state .progress .links)) (o3 .given .1) (pre .good) in
@@ -54,8 +57,9 @@ enum-known-o-4 c = search needs
 
 read-body-requires : tie.Need-read-body-requires
 read-body-requires c κs =
-    let args = c .before .before .before .before .before .before .before .before .args in
-    let pre = c .before .before .before .before .before .before .before .before .pre in
+    let start = c .before .before .before .before .before .before .before .before in
+    let args = start .args in
+    let pre = start .pre in
     let o4 = c .before .before .o4 in
     let good = subst (OutcomeInside (treeOf (now (args .image))) (args .w .state .progress .links)) (o4 .given .1) (pre .good) in
     record { walking = pre .walking; resting = pre .resting; good = good; last-is = pre .last-is }
@@ -72,8 +76,9 @@ same-length c = search needs
 
 returns-2 : tie.Need-returns-2
 returns-2 c =
-    let args = c .before .before .before .before .before .before .before .before .before .before .args in
-    let pre = c .before .before .before .before .before .before .before .before .before .before .pre in
+    let start = c .before .before .before .before .before .before .before .before .before .before in
+    let args = start .args in
+    let pre = start .pre in
     let o2 = c .before .before .before .before .o2 in
     let standing-on = c .before .before .standing-on in
     let A : State → Type 0 = λ st. Advanced (now (args .image)) (now (args .path)) (now (args .stack)) (inState (args .w) st) (c .advance .result) in
@@ -85,8 +90,9 @@ same-length-2 c = search needs
 
 returns-3 : tie.Need-returns-3
 returns-3 c =
-    let args = c .before .before .before .before .before .before .before .before .before .before .args in
-    let pre = c .before .before .before .before .before .before .before .before .before .before .pre in
+    let start = c .before .before .before .before .before .before .before .before .before .before in
+    let args = start .args in
+    let pre = start .pre in
     let o3 = c .before .before .before .before .o3 in
     let followed-to = c .before .before .followed-to in
     let good = subst (OutcomeInside (treeOf (now (args .image))) (args .w .state .progress .links)) (o3 .given .1) (pre .good) in

@@ -19,8 +19,9 @@ use Rattle.walk.proofs.read_body.Tie as tie
 
 body-requires : tie.Need-body-requires
 body-requires c κs =
-    let args = c .before .before .before .args in
-    let pre = c .before .before .before .pre in
+    let start = c .before .before .before in
+    let args = start .args in
+    let pre = start .pre in
     let s = now (args .image) in
     let nodes = accepted-sound s (pre .walking .reading .accepted) .nodes-hold in
     (pre .walking .reading .counted, pre .good .2, symlink-facts (treeOf s) nodes (args .n) (pre .good .2) (pre .good .3) .0)
@@ -39,8 +40,9 @@ followed-to-requires c κs = search needs
 
 advance-requires : tie.Need-advance-requires
 advance-requires c κs =
-    let args = c .before .before .before .before .before .before .before .before .before .before .args in
-    let pre = c .before .before .before .before .before .before .before .before .before .before .pre in
+    let start = c .before .before .before .before .before .before .before .before .before .before in
+    let args = start .args in
+    let pre = start .pre in
     let body = c .before .before .before .before .before .before .body in
     let ends-in-slash = c .before .before .before .before .before .ends-in-slash in
     let both = c .before .before .before .before .both in
@@ -56,8 +58,9 @@ same-length c = search needs
 
 returns : tie.Need-returns
 returns c =
-    let args = c .before .before .before .before .before .before .before .before .before .before .before .args in
-    let pre = c .before .before .before .before .before .before .before .before .before .before .before .pre in
+    let start = c .before .before .before .before .before .before .before .before .before .before .before in
+    let args = start .args in
+    let pre = start .pre in
     let body = c .before .before .before .before .before .before .before .body in
     let skip-slashes = c .before .before .before .before .skip-slashes in
     let ends-in-slash = c .before .before .before .before .before .before .ends-in-slash in
@@ -83,8 +86,9 @@ same-length-2 c = search needs
 
 returns-2 : tie.Need-returns-2
 returns-2 c =
-    let args = c .before .before .before .before .before .before .before .before .before .before .before .before .before .args in
-    let pre = c .before .before .before .before .before .before .before .before .before .before .before .before .before .pre in
+    let start = c .before .before .before .before .before .before .before .before .before .before .before .before .before in
+    let args = start .args in
+    let pre = start .pre in
     let body = c .before .before .before .before .before .before .before .before .before .body in
     let skip-slashes = c .before .before .before .before .before .before .skip-slashes in
     let ends-in-slash = c .before .before .before .before .before .before .before .before .ends-in-slash in

@@ -2,10 +2,8 @@
 -- what they answer from the start. Each step takes one of the components that may be taken. Assumes nothing.
 use borrow.Author.Needs.{needs}
 use Prim.Native.Nat.{_-_}
-use mathlib.Core.Path.{_≡_, refl, sym, _∙_, subst}
-use native.Mathlib.Omega.{arith}
+use mathlib.Core.Path.{_≡_, refl, sym, _∙_}
 use lib.ListN.{length}
-use denote.Ref.{now}
 use Rattle.walk.specs.OpenTexts.{rest, Ready}
 use Rattle.walk.proofs.RunLaws.{goes-further, further-ready, further-same, ended-inside, ended-same, failed-same}
 use Rattle.walk.proofs.run.Statement.{statement}

@@ -50,8 +50,9 @@ mount-root-requires c κs = search needs
 
 is-under-requires : tie.Need-is-under-requires
 is-under-requires c κs =
-    let pre = c .before .before .before .before .before .before .before .before .before .before .pre in
-    let args = c .before .before .before .before .before .before .before .before .before .before .args in
+    let start = c .before .before .before .before .before .before .before .before .before .before in
+    let pre = start .pre in
+    let args = start .args in
     let is-directory = c .before .before .is-directory in
     let if3 = c .before .if3 in
     (pre .0 .sized, accepted-sound (now (args .image)) (pre .1) .nodes-hold .directories-hold, sym (is-directory .ensures) ∙ not-false _ (if3 .left))
@@ -88,7 +89,8 @@ enum-told-2 c = search needs
 returns-5 : tie.Need-returns-5
 unfolding covered
 returns-5 c =
-    let args = c .before .before .before .before .before .before .before .before .before .before .before .before .before .before .before .before .args in
+    let start = c .before .before .before .before .before .before .before .before .before .before .before .before .before .before .before .before in
+    let args = start .args in
     let is-directory = c .before .before .before .before .before .before .before .before .is-directory in
     let if3 = c .before .before .before .before .before .before .before .if3 in
     let mount-root = c .before .before .before .before .before .before .mount-root in
@@ -96,7 +98,7 @@ returns-5 c =
     let if4 = c .before .before .before .before .if4 in
     let find-mount = c .before .before .before .find-mount in
     let enum-told = c .before .enum-told in
-    let pre = c .before .before .before .before .before .before .before .before .before .before .before .before .before .before .before .before .pre in
+    let pre = start .pre in
     let if1 = c .before .before .before .before .before .before .before .before .before .before .before .before .if1 in
     let if2 = c .before .before .before .before .before .before .before .before .before .if2 in
     let t = treeOf (now (args .image)) in
@@ -110,14 +112,15 @@ returns-5 c =
 returns-6 : tie.Need-returns-6
 unfolding covered
 returns-6 c =
-    let args = c .before .before .before .before .before .before .before .before .before .before .before .before .before .before .before .args in
+    let start = c .before .before .before .before .before .before .before .before .before .before .before .before .before .before .before in
+    let args = start .args in
     let is-directory = c .before .before .before .before .before .before .before .is-directory in
     let if3 = c .before .before .before .before .before .before .if3 in
     let mount-root = c .before .before .before .before .before .mount-root in
     let is-under2 = c .before .before .before .before .is-under in
     let if4 = c .before .before .before .if4 in
     let find-mount = c .before .before .find-mount in
-    let pre = c .before .before .before .before .before .before .before .before .before .before .before .before .before .before .before .pre in
+    let pre = start .pre in
     let if1 = c .before .before .before .before .before .before .before .before .before .before .before .if1 in
     let if2 = c .before .before .before .before .before .before .before .before .if2 in
     let t = treeOf (now (args .image)) in

@@ -23,18 +23,17 @@ has-requires c κs = omega arith
 returns : tie.Need-returns
 returns c =
     let args = c .before .before .before .args in
-    let has = c .before .has in
-    let t = treeOf (now (args .image)) in
-    let k = args .k in
-    let R = restrictionsFor k in
-    let b = not (eqb (args .p .mount) (k .root .mount)) in
-    sym (barred-link R 0 (requestFor (now (args .image)) k) (args .p) (args .n) (sym (has .ensures) ∙ c .if1 .taken))
+    let a = requestFor (now (args .image)) (args .k) in
+    sym (barred-link (restrictionsFor (args .k)) 0 a (args .p) (args .n) (sym (c .before .has .ensures) ∙ c .if1 .taken))
 
 body-requires : tie.Need-body-requires
 body-requires c κs =
-    let args = c .before .before .before .args in
-    let pre = c .before .before .before .pre in
-    let sound = accepted-sound (now (args .image)) (pre .0 .reading .accepted) in (pre .0 .reading .counted, pre .1, symlink-facts (treeOf (now (args .image))) (sound .nodes-hold) (args .n) (pre .1) (pre .2) .0)
+    let start = c .before .before .before in
+    let args = start .args in
+    let pre = start .pre in
+    let sound = accepted-sound (now (args .image)) (pre .0 .reading .accepted) in
+    let facts = symlink-facts (treeOf (now (args .image))) (sound .nodes-hold) (args .n) (pre .1) (pre .2) in
+    (pre .0 .reading .counted, pre .1, facts .0)
 
 is-absolute-requires : tie.Need-is-absolute-requires
 is-absolute-requires c κs = search needs
@@ -42,33 +41,23 @@ is-absolute-requires c κs = search needs
 returns-2 : tie.Need-returns-2
 unfolding symbolicLink forbidAny
 returns-2 c =
-    let args = c .before .before .before .before .before .before .args in
-    let has = c .before .before .before .before .has in
-    let if1 = c .before .before .before .if1 in
-    let body = c .before .before .body in
-    let is-absolute = c .before .is-absolute in
-    let t = treeOf (now (args .image)) in
-    let k = args .k in
-    let R = restrictionsFor k in
-    let b = not (eqb (args .p .mount) (k .root .mount)) in
-    let ab : absolute (t .body (args .n)) ≡ false = ap absolute (sym (body .ensures)) ∙ sym (is-absolute .ensures) ∙ not-true _ (c .if2 .taken) in
-    rw (ab, link-row R, sym (has .ensures) ∙ if1 .left)
+    let at1 = c .before .before .before in
+    let args = at1 .before .before .before .args in
+    let text = ap absolute (sym (c .before .before .body .ensures)) ∙ sym (c .before .is-absolute .ensures) in
+    let relative : absolute (treeOf (now (args .image)) .body (args .n)) ≡ false = text ∙ not-true _ (c .if2 .taken) in
+    rw (relative, link-row (restrictionsFor (args .k)), sym (at1 .before .has .ensures) ∙ at1 .if1 .left)
 
 returns-3 : tie.Need-returns-3
 unfolding symbolicLink forbidAny
 returns-3 c =
-    let args = c .before .before .before .before .before .before .before .args in
-    let has = c .before .before .before .before .before .has in
-    let if1 = c .before .before .before .before .if1 in
-    let body = c .before .before .before .body in
-    let is-absolute = c .before .before .is-absolute in
-    let if2 = c .before .if2 in
-    let t = treeOf (now (args .image)) in
-    let k = args .k in
-    let R = restrictionsFor k in
-    let b = not (eqb (args .p .mount) (k .root .mount)) in
-    let ab : absolute (t .body (args .n)) ≡ true = ap absolute (sym (body .ensures)) ∙ sym (is-absolute .ensures) ∙ not-false _ (if2 .left) in
-    rw (ab, link-row R, jump-row R b, sym (has .ensures) ∙ if1 .left, c .if3 .taken)
+    let at2 = c .before in
+    let at1 = at2 .before .before .before in
+    let args = at1 .before .before .before .args in
+    let R = restrictionsFor (args .k) in
+    let elsewhere = not (eqb (args .p .mount) (args .k .root .mount)) in
+    let text = ap absolute (sym (at2 .before .before .body .ensures)) ∙ sym (at2 .before .is-absolute .ensures) in
+    let slash : absolute (treeOf (now (args .image)) .body (args .n)) ≡ true = text ∙ not-false _ (at2 .if2 .left) in
+    rw (slash, link-row R, jump-row R elsewhere, sym (at1 .before .has .ensures) ∙ at1 .if1 .left, c .if3 .taken)
 
 has-requires-2 : tie.Need-has-requires-2
 has-requires-2 c κs = omega arith
@@ -76,20 +65,15 @@ has-requires-2 c κs = omega arith
 returns-4 : tie.Need-returns-4
 unfolding symbolicLink forbidAny
 returns-4 c =
-    let args = c .before .before .before .before .before .before .before .before .before .args in
-    let has = c .before .before .before .before .before .before .before .has in
-    let if1 = c .before .before .before .before .before .before .if1 in
-    let body = c .before .before .before .before .before .body in
-    let is-absolute = c .before .before .before .before .is-absolute in
-    let if2 = c .before .before .before .if2 in
-    let if3 = c .before .before .if3 in
-    let has2 = c .before .has2 in
-    let t = treeOf (now (args .image)) in
-    let k = args .k in
-    let R = restrictionsFor k in
-    let b = not (eqb (args .p .mount) (k .root .mount)) in
-    let ab : absolute (t .body (args .n)) ≡ true = ap absolute (sym (body .ensures)) ∙ sym (is-absolute .ensures) ∙ not-false _ (if2 .left) in
-    rw (ab, link-row R, jump-row R b, sym (has .ensures) ∙ if1 .left, if3 .left, sym (has2 .ensures) ∙ c .if4 .taken)
+    let at3 = c .before .before in
+    let at2 = at3 .before in
+    let at1 = at2 .before .before .before in
+    let args = at1 .before .before .before .args in
+    let R = restrictionsFor (args .k) in
+    let elsewhere = not (eqb (args .p .mount) (args .k .root .mount)) in
+    let text = ap absolute (sym (at2 .before .before .body .ensures)) ∙ sym (at2 .before .is-absolute .ensures) in
+    let slash : absolute (treeOf (now (args .image)) .body (args .n)) ≡ true = text ∙ not-false _ (at2 .if2 .left) in
+    rw (slash, link-row R, jump-row R elsewhere, sym (at1 .before .has .ensures) ∙ at1 .if1 .left, at3 .if3 .left, sym (c .before .has2 .ensures) ∙ c .if4 .taken)
 
 barred-requires : tie.Need-barred-requires
 barred-requires c κs = search needs
@@ -97,42 +81,30 @@ barred-requires c κs = search needs
 returns-5 : tie.Need-returns-5
 unfolding symbolicLink forbidAny
 returns-5 c =
-    let args = c .before .before .before .before .before .before .before .before .before .before .before .before .args in
-    let has = c .before .before .before .before .before .before .before .before .before .before .has in
-    let if1 = c .before .before .before .before .before .before .before .before .before .if1 in
-    let body = c .before .before .before .before .before .before .before .before .body in
-    let is-absolute = c .before .before .before .before .before .before .before .is-absolute in
-    let if2 = c .before .before .before .before .before .before .if2 in
-    let if3 = c .before .before .before .before .before .if3 in
-    let has2 = c .before .before .before .before .has2 in
-    let if4 = c .before .before .before .if4 in
-    let barred = c .before .barred in
-    let t = treeOf (now (args .image)) in
-    let k = args .k in
-    let R = restrictionsFor k in
-    let b = not (eqb (args .p .mount) (k .root .mount)) in
-    let ab : absolute (t .body (args .n)) ≡ true = ap absolute (sym (body .ensures)) ∙ sym (is-absolute .ensures) ∙ not-false _ (if2 .left) in
-    rw (ab, link-row R, jump-row R b, sym (has .ensures) ∙ if1 .left, if3 .left, sym (has2 .ensures) ∙ if4 .left, sym (barred .ensures) ∙ c .if5 .taken)
+    let at4 = c .before .before .before in
+    let at3 = at4 .before .before in
+    let at2 = at3 .before in
+    let at1 = at2 .before .before .before in
+    let args = at1 .before .before .before .args in
+    let R = restrictionsFor (args .k) in
+    let elsewhere = not (eqb (args .p .mount) (args .k .root .mount)) in
+    let text = ap absolute (sym (at2 .before .before .body .ensures)) ∙ sym (at2 .before .is-absolute .ensures) in
+    let slash : absolute (treeOf (now (args .image)) .body (args .n)) ≡ true = text ∙ not-false _ (at2 .if2 .left) in
+    rw (slash, link-row R, jump-row R elsewhere, sym (at1 .before .has .ensures) ∙ at1 .if1 .left, at3 .if3 .left, sym (at4 .before .has2 .ensures) ∙ at4 .if4 .left, sym (c .before .barred .ensures) ∙ c .if5 .taken)
 
 returns-6 : tie.Need-returns-6
 unfolding symbolicLink forbidAny
 returns-6 c =
-    let args = c .before .before .before .before .before .before .before .before .before .before .before .before .args in
-    let has = c .before .before .before .before .before .before .before .before .before .before .has in
-    let if1 = c .before .before .before .before .before .before .before .before .before .if1 in
-    let body = c .before .before .before .before .before .before .before .before .body in
-    let is-absolute = c .before .before .before .before .before .before .before .is-absolute in
-    let if2 = c .before .before .before .before .before .before .if2 in
-    let if3 = c .before .before .before .before .before .if3 in
-    let has2 = c .before .before .before .before .has2 in
-    let if4 = c .before .before .before .if4 in
-    let barred = c .before .barred in
-    let t = treeOf (now (args .image)) in
-    let k = args .k in
-    let R = restrictionsFor k in
-    let b = not (eqb (args .p .mount) (k .root .mount)) in
-    let ab : absolute (t .body (args .n)) ≡ true = ap absolute (sym (body .ensures)) ∙ sym (is-absolute .ensures) ∙ not-false _ (if2 .left) in
-    rw (ab, link-row R, jump-row R b, sym (has .ensures) ∙ if1 .left, if3 .left, sym (has2 .ensures) ∙ if4 .left, sym (barred .ensures) ∙ c .if5 .left)
+    let at4 = c .before .before .before in
+    let at3 = at4 .before .before in
+    let at2 = at3 .before in
+    let at1 = at2 .before .before .before in
+    let args = at1 .before .before .before .args in
+    let R = restrictionsFor (args .k) in
+    let elsewhere = not (eqb (args .p .mount) (args .k .root .mount)) in
+    let text = ap absolute (sym (at2 .before .before .body .ensures)) ∙ sym (at2 .before .is-absolute .ensures) in
+    let slash : absolute (treeOf (now (args .image)) .body (args .n)) ≡ true = text ∙ not-false _ (at2 .if2 .left) in
+    rw (slash, link-row R, jump-row R elsewhere, sym (at1 .before .has .ensures) ∙ at1 .if1 .left, at3 .if3 .left, sym (at4 .before .has2 .ensures) ∙ at4 .if4 .left, sym (c .before .barred .ensures) ∙ c .if5 .left)
 
 pub follow-symbolic-spec : {M : Type 1} → statement M
 follow-symbolic-spec =

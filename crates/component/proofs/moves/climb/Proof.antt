@@ -55,8 +55,9 @@ mount-point-requires c κs = search needs
 
 to-parent-requires-2 : tie.Need-to-parent-requires-2
 to-parent-requires-2 c κs =
-    let args = c .before .before .before .before .before .before .before .before .args in
-    let pre = c .before .before .before .before .before .before .before .before .pre in
+    let start = c .before .before .before .before .before .before .before .before in
+    let args = start .args in
+    let pre = start .pre in
     let mount-parent = c .before .mount-parent in
     let t = treeOf (now (args .image)) in
     let mounts = accepted-sound (now (args .image)) (pre .0 .accepted) .mounts-hold in (

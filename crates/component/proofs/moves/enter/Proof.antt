@@ -36,8 +36,9 @@ returns c mark =
 
 mount-root-requires : tie.Need-mount-root-requires
 mount-root-requires c κs =
-    let args = c .before .before .before .before .before .before .before .args in
-    let pre = c .before .before .before .before .before .before .before .pre in
+    let start = c .before .before .before .before .before .before .before in
+    let args = start .args in
+    let pre = start .pre in
     let find-mount = c .before .before .before .before .before .find-mount in
     let found = c .before .before .before .found in
     let t = treeOf (now (args .image)) in

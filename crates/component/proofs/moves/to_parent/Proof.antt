@@ -19,8 +19,9 @@ node-parent-requires c κs =
 
 enter-requires : tie.Need-enter-requires
 enter-requires c κs =
-    let args = c .before .before .args in
-    let pre = c .before .before .pre in
+    let start = c .before .before in
+    let args = start .args in
+    let pre = start .pre in
     let t = treeOf (now (args .image)) in
     let nodes = accepted-sound (now (args .image)) (pre .0 .accepted) .nodes-hold .directories-hold in
     let below = directory-below t nodes (t .parent (args .p .node)) (parent-directory t nodes (args .p .node) (pre .2)) in

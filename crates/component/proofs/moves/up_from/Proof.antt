@@ -34,7 +34,8 @@ returns-2 c =
     let mount-root = c .before .before .mount-root in
     let same-place2 = c .before .same-place2 in
     let t = treeOf (now (args .image)) in
-    let e : samePlace (args .p) (placeAt 0 (t .mountRoot 0)) ≡ true = ap (λ (n : ℕ). samePlace (args .p) (placeAt 0 n)) (sym (mount-root .ensures .0)) ∙ sym (same-place2 .ensures) ∙ c .if2 .taken in
+    let top = ap (λ (n : ℕ). samePlace (args .p) (placeAt 0 n)) (sym (mount-root .ensures .0)) in
+    let e : samePlace (args .p) (placeAt 0 (t .mountRoot 0)) ≡ true = top ∙ sym (same-place2 .ensures) ∙ c .if2 .taken in
     rw (sym (same-place .ensures) ∙ if1 .left, e)
 
 climb-requires : tie.Need-climb-requires
@@ -50,7 +51,8 @@ returns-3 c =
     let same-place2 = c .before .before .same-place2 in
     let if2 = c .before .if2 in
     let t = treeOf (now (args .image)) in
-    let e : samePlace (args .p) (placeAt 0 (t .mountRoot 0)) ≡ false = ap (λ (n : ℕ). samePlace (args .p) (placeAt 0 n)) (sym (mount-root .ensures .0)) ∙ sym (same-place2 .ensures) ∙ if2 .left in
+    let top = ap (λ (n : ℕ). samePlace (args .p) (placeAt 0 n)) (sym (mount-root .ensures .0)) in
+    let e : samePlace (args .p) (placeAt 0 (t .mountRoot 0)) ≡ false = top ∙ sym (same-place2 .ensures) ∙ if2 .left in
     c .climb .ensures (args .k .mark) ∙ rw (sym (same-place .ensures) ∙ if1 .left, e)
 
 pub up-from-spec : {M : Type 1} → statement M

@@ -2,7 +2,7 @@
 use borrow.Author.Needs.{needs}
 use Prim.Native.Nat.{_≤_}
 use mathlib.Core.Bool.{_&&_}
-use mathlib.Core.Path.{sym, ap, ap₂, _∙_}
+use mathlib.Core.Path.{sym, ap, _∙_}
 use native.Mathlib.Omega.{arith}
 use borrow.Author.Tests.{not-true, not-false, eqb-true, eqb-false}
 use lib.Dec.{eqb}
@@ -27,8 +27,9 @@ names-requires c κs = search needs
 
 returns : tie.Need-returns
 returns c =
-    let args = c .before .before .before .before .before .before .before .before .before .args in
-    let pre = c .before .before .before .before .before .before .before .before .before .pre in
+    let start = c .before .before .before .before .before .before .before .before .before in
+    let args = start .args in
+    let pre = start .pre in
     let node-kind = c .before .before .node-kind in
     let names = c .before .names in
     let t = treeOf (now (args .image)) in
@@ -45,8 +46,9 @@ next-component-requires c κs = search needs
 
 at-end-requires : tie.Need-at-end-requires
 at-end-requires c κs =
-    let args = c .before .before .before .before .before .before .before .before .before .before .before .args in
-    let pre = c .before .before .before .before .before .before .before .before .before .before .before .pre in
+    let start = c .before .before .before .before .before .before .before .before .before .before .before in
+    let args = start .args in
+    let pre = start .pre in
     let text-of = c .before .text-of in
     let x = now (text-of .result) in
     let at = args .self .at in
@@ -58,8 +60,9 @@ both-requires c κs = search needs
 
 name-of-requires : tie.Need-name-of-requires
 name-of-requires c κs =
-    let args = c .before .before .before .before .before .before .before .before .before .before .before .before .before .args in
-    let pre = c .before .before .before .before .before .before .before .before .before .before .before .before .before .pre in
+    let start = c .before .before .before .before .before .before .before .before .before .before .before .before .before in
+    let args = start .args in
+    let pre = start .pre in
     let text-of = c .before .before .before .text-of in
     let next-component = c .before .before .next-component in
     let x = textOf (treeOf (now (args .image))) (now (args .path)) (args .self .text) in
@@ -69,8 +72,9 @@ name-of-requires c κs =
 
 take-component-requires : tie.Need-take-component-requires
 take-component-requires c κs =
-    let args = c .before .before .before .before .before .before .before .before .before .before .before .before .before .before .args in
-    let pre = c .before .before .before .before .before .before .before .before .before .before .before .before .before .before .pre in
+    let start = c .before .before .before .before .before .before .before .before .before .before .before .before .before .before in
+    let args = start .args in
+    let pre = start .pre in
     let node-kind = c .before .before .before .before .before .before .before .node-kind in
     let names = c .before .before .before .before .before .before .names in
     let if1 = c .before .before .before .before .before .if1 in
@@ -86,8 +90,9 @@ taken-requires c κs =
 
 proceed-requires : tie.Need-proceed-requires
 proceed-requires c κs =
-    let args = c .before .before .before .before .before .before .before .before .before .before .before .before .before .before .before .before .before .args in
-    let pre = c .before .before .before .before .before .before .before .before .before .before .before .before .before .before .before .before .before .pre in
+    let start = c .before .before .before .before .before .before .before .before .before .before .before .before .before .before .before .before .before in
+    let args = start .args in
+    let pre = start .pre in
     let node-kind = c .before .before .before .before .before .before .before .before .before .before .node-kind in
     let names = c .before .before .before .before .before .before .before .before .before .names in
     let if1 = c .before .before .before .before .before .before .before .before .if1 in
@@ -109,8 +114,9 @@ same-length c = search needs
 
 returns-2 : tie.Need-returns-2
 returns-2 c =
-    let args = c .before .before .before .before .before .before .before .before .before .before .before .before .before .before .before .before .before .before .before .before .args in
-    let pre = c .before .before .before .before .before .before .before .before .before .before .before .before .before .before .before .before .before .before .before .before .pre in
+    let start = c .before .before .before .before .before .before .before .before .before .before .before .before .before .before .before .before .before .before .before .before in
+    let args = start .args in
+    let pre = start .pre in
     let node-kind = c .before .before .before .before .before .before .before .before .before .before .before .before .before .node-kind in
     let names = c .before .before .before .before .before .before .before .before .before .before .before .before .names in
     let if1 = c .before .before .before .before .before .before .before .before .before .before .before .if1 in
