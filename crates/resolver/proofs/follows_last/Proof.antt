@@ -1,5 +1,4 @@
 -- `resolver::follows_last` meets its contract. Assumes nothing.
-use borrow.Author.Needs.{needs}
 use mathlib.Core.Path.{_∙_, sym}
 use native.Mathlib.Omega.{arith}
 use Rattle.resolver.proofs.follows_last.Statement.{statement}
