@@ -1,2 +1,4 @@
--- The theorem that shows the definitions to be document 01's on its worked calls. The laws over them are the crate laws, the theorems the crate theorems.
+-- Document 01's worked calls, and the theorem that shows the definitions to be its own on them. The laws over the definitions are the
+-- crate laws, the theorems the crate theorems.
+pub mod BenchTree
 pub mod WorkedTable

@@ -15,8 +15,8 @@ use Rattle.model.specs.Trace.{meets, row, firstSet, forbids, answer, sto
 use Rattle.model.specs.Walk.{samePlace, rootOf, pointOf, enter, toParent, climb, atTop, goUp, magicLink, symbolicLink, followLink, stepTo, byName, oneComponent, finish, transition}
 use Rattle.model.specs.Walk.{walkPending, walk, beginAt, walkPath}
 use Rattle.model.specs.Resolve.{refusedBefore, restrictions, requestOf, traceOf, resolve, placesOf}
-use Rattle.model.specs.BenchTree.{digit, hexBytes, hex, smallest, benchNodes, benchMounts, benchEntries, bench, openHow, Case, workedTable, bind, magicLoop, magicPath, ownTable, run}
-use Rattle.model.specs.BenchTree.{stoodTable, stood}
+use Rattle.model.proofs.BenchTree.{digit, hexBytes, hex, smallest, benchNodes, benchMounts, benchEntries, bench, openHow, workedTable, bind, magicLoop, magicPath, ownTable}
+use Rattle.model.proofs.BenchTree.{run, stoodTable, stood}
 use Rattle.model.specs.declared.Verdict.the-variants.{Accepted}
 
 -- P1 to P12 and the unnumbered rows are one equation, and so are the rows of our own.
@@ -30,7 +30,8 @@ pub record Worked : Type 0 where
 pub worked : Worked
 unfolding field fieldBytes part has contains sameBytes before find firstFailing ascii
     sizesOf nodesPart mountsPart entriesPart textPart treeOf isDirectory isLink holds lookup meetsWithin under mountOn covered
-    rule1 rule2 countsFit wholeLength rule3 directoryCount sumBelow countsBefore directoryHolds fileHolds symlinkHolds magicHolds nodeHolds rule4 nameHolds follows ascends standsInParent entryHolds rule5 pointHolds sharesPoint hangs mountHolds rule6 targetHolds magicTargetHolds rule7 recordsCheck tableCheck
+    rule1 rule2 countsFit wholeLength rule3 directoryCount sumBelow countsBefore directoryHolds fileHolds symlinkHolds magicHolds nodeHolds rule4
+    nameHolds follows ascends standsInParent entryHolds rule5 pointHolds sharesPoint hangs mountHolds rule6 targetHolds magicTargetHolds rule7 recordsCheck tableCheck
     flagsOf modeOf paddingOf resolveOf unknownBit tailSet bothScopes modeSet howRefused
     upToSlash componentsFrom components absolute endsInSlash pathRefused handleRefused
     meets row firstSet forbids answer stoodOn

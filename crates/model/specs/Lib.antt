@@ -11,4 +11,3 @@ pub mod Trace
 pub mod Walk
 pub mod Step
 pub mod Resolve
-pub mod BenchTree

@@ -1,7 +1,7 @@
 -- The resolver's answer, for any bytes at all.
 use Prim.Native.Nat.{ℕ}
-use mathlib.Core.Bool.{Bool, true, false, cond, not, _||_}
-use mathlib.Core.List.{List, []}
+use mathlib.Core.Bool.{Bool, cond, not, _||_}
+use mathlib.Core.List.{List}
 use mathlib.Core.Option.{Option, none, some}
 use Rattle.model.specs.Bytes.{has, orElse, ifNone}
 use Rattle.model.specs.Tree.{treeOf}
@@ -10,7 +10,7 @@ use Rattle.model.specs.TableCheck.{tableCheck}
 use Rattle.model.specs.OpenHow.{flagsOf, resolveOf, howRefused, O-DIRECTORY, O-NOFOLLOW, O-PATH, NO-XDEV, NO-MAGICLINKS, NO-SYMLINKS, BENEATH, IN-ROOT}
 use Rattle.model.specs.Path.{pathRefused, endsInSlash}
 use Rattle.model.specs.Handles.{placeOf, handleRefused}
-use Rattle.model.specs.Trace.{Restriction, mark, beneath, noXdev, noSymlinks, noMagiclinks, Restrictions, Trace, answer, stoodOn}
+use Rattle.model.specs.Trace.{mark, beneath, noXdev, noSymlinks, noMagiclinks, Restrictions, Trace, answer, stoodOn}
 use Rattle.model.specs.Walk.{Request, rootOf, walkPath}
 use Rattle.model.specs.declared.Place.{Place}
 use Rattle.model.specs.declared.Handle.{Handle}

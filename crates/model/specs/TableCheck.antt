@@ -1,7 +1,7 @@
 -- The table check: "accepted", or the lowest rule broken and the lowest record number breaking it. Each rule gives the lowest
 -- record that breaks it, if there is one. "Sums are plain whole numbers and never wrap": numbers here have no bound.
 use Prim.Native.Nat.{ℕ, zero, suc, _+_, _-_, _*_}
-use mathlib.Core.Bool.{Bool, true, false, cond, not, _&&_, _||_}
+use mathlib.Core.Bool.{Bool, true, false, cond, not, _&&_}
 use mathlib.Core.List.{List}
 use mathlib.Core.Option.{Option, none, some}
 use lib.Dec.{eqb, ltb, leb}

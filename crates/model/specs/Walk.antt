@@ -11,7 +11,6 @@ use Rattle.model.specs.Answers.{refused, notWalked}
 use Rattle.model.specs.Path.{Component, givenPath, components, absolute, endsInSlash}
 use Rattle.model.specs.Trace.{Event, Start, Escape, Cross, Link, Magic, Jump, Trace, stop, meet, stand, meets}
 use Rattle.model.specs.declared.Place.{Place}
-use Rattle.model.specs.declared.Progress.{Progress}
 use Rattle.model.specs.declared.State.{State}
 use Rattle.model.specs.declared.Errno.{Errno}
 use Rattle.model.specs.declared.Errno.the-variants.{Enametoolong, Enoent, Enotdir, Eloop, Exdev}

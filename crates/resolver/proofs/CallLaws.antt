@@ -13,14 +13,13 @@ use lib.ListN.{length}
 use Rattle.model.specs.Answers.{notWalked, refused}
 use Rattle.model.specs.TableCheck.{tableCheck}
 use Rattle.model.specs.declared.Errno.the-variants.{Euclean}
-use Rattle.model.specs.declared.Verdict.the-variants.{Broken}
+use Rattle.model.specs.declared.Verdict.the-variants.{Accepted, Broken}
 use Rattle.model.specs.Handles.{placeOf}
 use Rattle.model.specs.Tree.{treeOf}
-use Rattle.model.specs.Walk.{rootOf, walkPath}
+use Rattle.model.specs.Walk.{walkPath}
 use Rattle.laws.proofs.Acceptance.{accepted-sound}
-use Rattle.laws.proofs.Cases.{cond-cases}
 use Rattle.laws.specs.Inside.{Inside}
-use Rattle.laws.proofs.Inside.{root-inside}
+use Rattle.theorems.proofs.Bounds.{either-root-inside}
 use Rattle.laws.proofs.Refusals.{unrefused, path-short, handle-inside}
 use Rattle.parts.specs.declared.records.Counts.{Counts}
 use Rattle.request.specs.Walking.{Reading, Walking}
@@ -30,22 +29,32 @@ use Rattle.model.specs.declared.Handle.{Handle}
 use Rattle.model.specs.declared.Refusal.{Refusal}
 use Rattle.model.specs.declared.Answer.the-variants.{Refused}
 use Rattle.open_how.specs.Fields.{fieldsOf}
-use Rattle.call.specs.Calls.{walksUnless}
+use Rattle.call.specs.Calls.{walksUnless, callRead}
+use Rattle.call.specs.declared.CallRead.{CallRead}
+use Rattle.call.proofs.CallLaws.{accepted-call}
 use Rattle.open_how.specs.declared.How.{How}
 use Rattle.call.specs.declared.CallRead.the-variants.{Walks, Refused as CallRefused}
 use Rattle.request.specs.Requests.{requestFor, restrictionsFor, numbersBy}
 
-pub walks-none : (o : Option Refusal) (f g : How) → walksUnless o f ≡ Walks g → (o ≡ none) × (f ≡ g)
+walks-none : (o : Option Refusal) (f g : How) → walksUnless o f ≡ Walks g → (o ≡ none) × (f ≡ g)
 walks-none none f g e = (refl, cc)
 walks-none (some r) f g e = let z : _≡_ {A = ℕ} 0 1 = cc in absurd (omega arith)
 
-pub refused-some : (o : Option Refusal) (f : How) (r : Refusal) → walksUnless o f ≡ CallRefused r → o ≡ some r
+refused-some : (o : Option Refusal) (f : How) (r : Refusal) → walksUnless o f ≡ CallRefused r → o ≡ some r
 refused-some none f r e = let z : _≡_ {A = ℕ} 0 1 = cc in absurd (omega arith)
 refused-some (some q) f r e = cc
 
 module _ (s : List ℕ) (h : Handle) (path how : List ℕ) where
+  -- what the call's check read, over an accepted table
+  module _ (accepted : tableCheck s ≡ Accepted) (read : CallRead) (is : read ≡ callRead s h path how) where
+    pub read-walks : (f : How) → read ≡ Walks f → (refusedBefore s h path how ≡ none) × (fieldsOf how ≡ f)
+    read-walks f told = walks-none (refusedBefore s h path how) (fieldsOf how) f (sym (accepted-call s h path how accepted) ∙ sym is ∙ told)
+
+    pub read-refused : (r : Refusal) → read ≡ CallRefused r → refusedBefore s h path how ≡ some r
+    read-refused r told = refused-some (refusedBefore s h path how) (fieldsOf how) r (sym (accepted-call s h path how accepted) ∙ sym is ∙ told)
+
   -- the walk of what the call asks is the definition's answer
-  pub asked : refusedBefore s h path how ≡ none
+  asked : refusedBefore s h path how ≡ none
       → let k = numbersBy s h (fieldsOf how) (endsInSlash path) in
       answer (restrictionsFor k) (walkPath (requestFor s k) (has O-DIRECTORY (flagsOf how) || endsInSlash path) path) ≡ resolve s (callOf h path how)
   unfolding resolve traceOf requestOf restrictions
@@ -56,10 +65,10 @@ module _ (s : List ℕ) (h : Handle) (path how : List ℕ) where
   refused-call r e = rw e
 
   -- the same from what the code has in hand
-  pub walked : (f : How) (slash : Bool) (k : Request) (directory : Bool) → refusedBefore s h path how ≡ none → fieldsOf how ≡ f → slash ≡ endsInSlash path
-      → k ≡ numbersBy s h f slash → directory ≡ has O-DIRECTORY (f .flags) || slash
+  pub walked : (f : How) (slash : Bool) (k : Request) (directory : Bool) → (refusedBefore s h path how ≡ none) × (fieldsOf how ≡ f)
+      → slash ≡ endsInSlash path → k ≡ numbersBy s h f slash → directory ≡ has O-DIRECTORY (f .flags) || slash
       → answer (restrictionsFor k) (walkPath (requestFor s k) directory path) ≡ resolve s (callOf h path how)
-  walked f slash k directory none-before fields slash-is k-is directory-is =
+  walked f slash k directory (none-before, fields) slash-is k-is directory-is =
       ap₂ (λ x d. answer (restrictionsFor x) (walkPath (requestFor s x) d path))
       (k-is ∙ ap₂ (numbersBy s h) (sym fields) slash-is)
       (directory-is ∙ ap₂ (λ (g : How) b. has O-DIRECTORY (g .flags) || b) (sym fields) slash-is)
@@ -72,7 +81,7 @@ module _ (s : List ℕ) (h : Handle) (path how : List ℕ) where
       let un = unrefused s h path how none-before in
       let sound = accepted-sound s (reading .accepted) in
       let handle = handle-inside (treeOf s) h (un .handle-passes) in
-      let root = cond-cases (Inside (treeOf s)) (has IN-ROOT (f .resolve)) (placeOf h) (rootOf (treeOf s) 0) (λ _. handle) (λ _. root-inside (treeOf s) sound 0 (sound .mounts-hold .some-mount)) in (
+      let root = either-root-inside (treeOf s) sound (placeOf h) handle (has IN-ROOT (f .resolve)) in (
         record { reading = reading; root-inside = subst (λ x. Inside (treeOf s) (x .root)) (sym k-is) root },
         subst (λ x. Inside (treeOf s) (x .handle)) (sym k-is) handle,
         path-short path (un .path-passes),

@@ -1,7 +1,7 @@
 -- "At most 40 links are followed and at most 83,968 components taken (41 texts of at most 2,048).", whatever the bytes. Assumes nothing.
 use Prim.Native.Nat.{ℕ, zero, suc, _-_, _≤_, _<_}
-use mathlib.Core.Bool.{Bool, not, _&&_, _||_}
-use mathlib.Core.List.{List, [], _∷_, _++_}
+use mathlib.Core.Bool.{Bool, cond, not, _&&_, _||_}
+use mathlib.Core.List.{List, [], _∷_}
 use mathlib.Core.Option.{Option, none, some}
 use mathlib.Core.Path.{_≡_, refl, sym, subst}
 use native.Mathlib.Omega.{arith}
@@ -155,6 +155,11 @@ module _ (a : Request) (sound : Sound (a .tree)) (root : Inside (a .tree) (a .ro
       (λ _. (not-walked-bounded, begin-within directory path (a .root) h root))
       (λ _. begin-within directory path (a .handle) h i)
 
+-- a call's root, the handle's place or mount 0's root, is in a sound tree
+pub either-root-inside : (t : Tree) → Sound t → (p : Place) → Inside t p → (b : Bool) → Inside t (cond b p (rootOf t 0))
+either-root-inside t sound p inside b =
+    cond-cases (Inside t) b p (rootOf t 0) (λ _. inside) (λ _. root-inside t sound 0 (sound .mounts-hold .some-mount))
+
 resolve-bounded-by : (image : List ℕ) (call : Call) (o : Option Refusal) → refusedBefore image (call .handle) (call .path) (call .how) ≡ o
     → Uncounted o → Bounded (progressOf (unlessRefused o (answer (restrictions call) (traceOf image call))))
 unfolding traceOf requestOf
@@ -164,9 +169,7 @@ resolve-bounded-by image call none e u =
     let un = unrefused image (call .handle) (call .path) (call .how) e in
     let sound = accepted-sound image (un .table-passes) in
     let handle = handle-inside tree (call .handle) (un .handle-passes) in
-    let root =
-    cond-cases (Inside tree) (has IN-ROOT (resolveOf (call .how))) (placeOf (call .handle)) (rootOf tree 0)
-    (λ _. handle) (λ _. root-inside tree sound 0 (sound .mounts-hold .some-mount)) in
+    let root = either-root-inside tree sound (placeOf (call .handle)) handle (has IN-ROOT (resolveOf (call .how))) in
     let directory = has O-DIRECTORY (flagsOf (call .how)) || endsInSlash (call .path) in
     answer-within (restrictions call) (traceOf image call)
     (path-within (requestOf image call) sound root directory (call .path) (path-short (call .path) (un .path-passes)) handle)

@@ -3,23 +3,21 @@ use Prim.Native.Nat.{ℕ, zero, suc, _+_, _-_, _<_}
 use mathlib.Core.Bool.{true, false, _&&_, true≢false, false≢true}
 use mathlib.Core.List.{List, [], _∷_, _++_}
 use mathlib.Core.Option.{Option, some, none}
-use mathlib.Core.Path.{_≡_, refl, sym, ap, _∙_}
+use mathlib.Core.Path.{_≡_, refl, ap, _∙_}
 use native.Mathlib.Omega.{arith}
 use lib.ListN.{length}
-use Rattle.model.specs.Answers.{refused}
 use Rattle.model.specs.Bytes.{orElse}
 use Rattle.model.specs.Path.{Component, components, endsInSlash}
 use Rattle.model.specs.Tree.{Tree, isDirectory}
 use Rattle.model.specs.Trace.{Event, Restrictions, Trace, meets, forbids, forbidAny, refusedBy, answer}
 use Rattle.model.specs.Walk.{Request, Landing, outside, target, reading, Step, fail, go, follow, taken, followedTo, oneComponent, isEmpty, Turn, refuses, went, followed, Transition}
-use Rattle.model.specs.Walk.{refusesAt, land, transitionBy, transition, turned, traced, walkPending, noneLeft, walk, finish}
+use Rattle.model.specs.Walk.{land, transitionBy, transition, turned, traced, walkPending, noneLeft, walk}
 use Rattle.model.specs.Step.{Configuration, Onward, more, done, failed, onWith, nextBy, failedBy, restricted, step, stepOf, answerFrom, answerAfter}
 use Rattle.model.specs.declared.Progress.{Progress}
 use Rattle.model.specs.declared.State.{State}
 use Rattle.model.specs.declared.Errno.{Errno}
 use Rattle.model.specs.declared.Answer.{Answer}
 use Rattle.laws.specs.Acceptance.{Sound}
-use Rattle.theorems.specs.Bounded.{Bounded}
 use Rattle.laws.specs.Inside.{Inside}
 use Rattle.theorems.specs.Ordered.{Room, Ordered, OrderedOnward}
 use Rattle.theorems.proofs.Bounds.{room-bounded, TurnOrdered, transition-ordered}

@@ -1,7 +1,6 @@
 -- Demand 3 applied to calls over the bench tree. Only the first calls are computed: the second answers come from `demand-3`.
 -- Assumes nothing.
 use mathlib.Core.Bool.{true, false}
-use mathlib.Core.List.{List}
 use mathlib.Core.Option.{Option, none, some}
 use mathlib.Core.Path.{_≡_, refl, sym, ap, _∙_}
 use Prim.Native.Nat.{_≤_}
@@ -19,12 +18,12 @@ use Rattle.model.specs.Trace.{beneath, Restrictions, meets, row, firstSet, forb
 use Rattle.model.specs.Walk.{samePlace, rootOf, pointOf, enter, toParent, climb, atTop, goUp, magicLink, symbolicLink, followLink}
 use Rattle.model.specs.Walk.{stepTo, byName, oneComponent, finish, transition, walkPending, walk, beginAt, walkPath}
 use Rattle.model.specs.Resolve.{refusedBefore, restrictions, requestOf, traceOf, resolve}
-use Rattle.model.specs.BenchTree.{digit, hexBytes, hex, benchNodes, benchMounts, benchEntries, bench, openHow}
+use Rattle.model.proofs.BenchTree.{digit, hexBytes, hex, benchNodes, benchMounts, benchEntries, bench, openHow}
 use Rattle.model.specs.declared.Errno.{Errno}
 use Rattle.model.specs.declared.Answer.{Answer}
 use Rattle.model.proofs.WorkedTable.{worked}
 use Rattle.theorems.specs.Adding.{Added, Adds, Meeting, OnlyStops, addedBits, withBits, withMark, meetings, eventsOf, firstForbidden}
-use Rattle.theorems.specs.Witness.{TwoCalls, setOf, crossing, escaping, jumping, refusedTwice, unhindered, Applied, Witnessed}
+use Rattle.theorems.proofs.Witness.{TwoCalls, setOf, crossing, escaping, jumping, refusedTwice, unhindered, Applied, Witnessed}
 use Rattle.theorems.proofs.Demand3.{demand-3, setting-adds}
 
 -- what demand 3 makes of the first answer: the event refused under all restrictions now set

@@ -1,6 +1,6 @@
 -- Demand 3 in definitions: two calls of the resolver of which the second has restrictions added, and the events of the first.
 use Prim.Native.Nat.{ℕ, _+_, _≤_, _<_}
-use mathlib.Core.Bool.{Bool, true, false, cond, _||_}
+use mathlib.Core.Bool.{true, false, cond, _||_}
 use mathlib.Core.List.{List, [], _∷_}
 use mathlib.Core.Logic.{_⊎_}
 use mathlib.Core.Option.{Option, none, some}
@@ -14,7 +14,7 @@ use Rattle.model.specs.TableCheck.{tableCheck}
 use Rattle.model.specs.OpenHow.{resolveOf, NO-XDEV, NO-MAGICLINKS, NO-SYMLINKS, BENEATH, IN-ROOT}
 use Rattle.model.specs.Answers.{refused}
 use Rattle.model.specs.Handles.{placeOf, handleRefused}
-use Rattle.model.specs.Trace.{Event, Restriction, mark, beneath, noXdev, noSymlinks, noMagiclinks, Restrictions, Trace, stop, meet, stand, forbids}
+use Rattle.model.specs.Trace.{Event, mark, beneath, noXdev, noSymlinks, noMagiclinks, Restrictions, Trace, stop, meet, stand, forbids}
 use Rattle.model.specs.Resolve.{Call, callOf, refusedBefore, restrictions, traceOf, resolve}
 use Rattle.model.specs.declared.Progress.{Progress}
 use Rattle.model.specs.declared.Handle.{Handle}

@@ -2,4 +2,3 @@
 pub mod Adding
 pub mod Bounded
 pub mod Ordered
-pub mod Witness

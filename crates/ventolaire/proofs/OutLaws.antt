@@ -1,5 +1,5 @@
 -- Numbers stored one after the other at the front of an array. Assumes nothing.
-use Prim.Native.Nat.{ℕ, _≤_, _<_}
+use Prim.Native.Nat.{ℕ, suc, _≤_, _<_}
 use mathlib.Core.List.{List, [], _∷_, _++_}
 use mathlib.Core.Path.{_≡_, refl, ap, _∙_, sym}
 use native.Mathlib.Omega.{arith}
@@ -11,19 +11,20 @@ use Rattle.model.specs.declared.Verdict.{Verdict}
 use Rattle.model.specs.declared.Verdict.the-variants.{Accepted, Broken}
 use Rattle.ventolaire.specs.Written.{Writes}
 
-pub front-2 : (l : List ℕ) (a b : ℕ) → 2 ≤ length l → set (set l 0 a) 1 b ≡ a ∷ b ∷ drop 2 l
-front-2 [] a b h = absurd (omega arith)
-front-2 (x ∷ []) a b h = absurd (omega arith)
-front-2 (x ∷ (y ∷ l)) a b h = refl
+-- stores of numbers, one after the other from an index on
+abbrev pub stores : List ℕ → ℕ → List ℕ → List ℕ
+stores l i [] = l
+stores l i (n ∷ ns) = stores (set l i n) (suc i) ns
 
-pub front-6 : (l : List ℕ) (a b c d e f : ℕ) → 6 ≤ length l → set (set (set (set (set (set l 0 a) 1 b) 2 c) 3 d) 4 e) 5 f ≡ a ∷ b ∷ c ∷ d ∷ e ∷ f ∷ drop 6 l
-front-6 [] a b c d e f h = absurd (omega arith)
-front-6 (u ∷ []) a b c d e f h = absurd (omega arith)
-front-6 (u ∷ (v ∷ [])) a b c d e f h = absurd (omega arith)
-front-6 (u ∷ (v ∷ (w ∷ []))) a b c d e f h = absurd (omega arith)
-front-6 (u ∷ (v ∷ (w ∷ (x ∷ [])))) a b c d e f h = absurd (omega arith)
-front-6 (u ∷ (v ∷ (w ∷ (x ∷ (y ∷ []))))) a b c d e f h = absurd (omega arith)
-front-6 (u ∷ (v ∷ (w ∷ (x ∷ (y ∷ (z ∷ l)))))) a b c d e f h = refl
+behind : (ns l : List ℕ) (x i : ℕ) → stores (x ∷ l) (suc i) ns ≡ x ∷ stores l i ns
+behind [] l x i = refl
+behind (n ∷ ns) l x i = behind ns (set l i n) x (suc i)
+
+-- from 0 on they stand at the front
+pub front : (ns l : List ℕ) → length ns ≤ length l → stores l 0 ns ≡ ns ++ drop (length ns) l
+front [] l h = refl
+front (n ∷ ns) [] h = absurd (omega arith)
+front (n ∷ ns) (x ∷ l) h = behind ns l n 0 ∙ ap (λ m. n ∷ m) (front ns l (omega arith))
 
 -- an answer has six numbers, a verdict two
 answer-six : (a : Answer) → length (answerNumbers a) ≡ 6
@@ -55,15 +56,3 @@ verdict-writes v before after = writes-all (verdictNumbers v) 2 (verdict-two v) 
 
 pub verdict-short : (v : Verdict) (before : List ℕ) → length before < 2 → Writes (verdictNumbers v) before before 0
 verdict-short v before = writes-none (verdictNumbers v) before 2 (verdict-two v)
-
-pub front-9 : (l : List ℕ) (a b c d e f g h i : ℕ) → 9 ≤ length l → set (set (set (set (set (set (set (set (set l 0 a) 1 b) 2 c) 3 d) 4 e) 5 f) 6 g) 7 h) 8 i ≡ a ∷ b ∷ c ∷ d ∷ e ∷ f ∷ g ∷ h ∷ i ∷ drop 9 l
-front-9 [] a b c d e f g h i m = absurd (omega arith)
-front-9 (u0 ∷ []) a b c d e f g h i m = absurd (omega arith)
-front-9 (u0 ∷ (u1 ∷ [])) a b c d e f g h i m = absurd (omega arith)
-front-9 (u0 ∷ (u1 ∷ (u2 ∷ []))) a b c d e f g h i m = absurd (omega arith)
-front-9 (u0 ∷ (u1 ∷ (u2 ∷ (u3 ∷ [])))) a b c d e f g h i m = absurd (omega arith)
-front-9 (u0 ∷ (u1 ∷ (u2 ∷ (u3 ∷ (u4 ∷ []))))) a b c d e f g h i m = absurd (omega arith)
-front-9 (u0 ∷ (u1 ∷ (u2 ∷ (u3 ∷ (u4 ∷ (u5 ∷ [])))))) a b c d e f g h i m = absurd (omega arith)
-front-9 (u0 ∷ (u1 ∷ (u2 ∷ (u3 ∷ (u4 ∷ (u5 ∷ (u6 ∷ []))))))) a b c d e f g h i m = absurd (omega arith)
-front-9 (u0 ∷ (u1 ∷ (u2 ∷ (u3 ∷ (u4 ∷ (u5 ∷ (u6 ∷ (u7 ∷ [])))))))) a b c d e f g h i m = absurd (omega arith)
-front-9 (u0 ∷ (u1 ∷ (u2 ∷ (u3 ∷ (u4 ∷ (u5 ∷ (u6 ∷ (u7 ∷ (u8 ∷ l))))))))) a b c d e f g h i m = refl

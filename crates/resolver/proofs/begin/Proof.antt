@@ -1,7 +1,9 @@
 -- `resolver::begin` meets its contract. Assumes nothing.
 use borrow.Author.Needs.{needs}
+use Prim.Native.Nat.{_<_}
 use mathlib.Core.Path.{_≡_, refl, sym, ap, _∙_, subst}
 use native.Mathlib.Omega.{arith}
+use lib.ListN.{length}
 use denote.Ref.{now}
 use Rattle.text.specs.Positions.{slashes}
 use Rattle.text.proofs.Components.{start-past, past-within}
@@ -18,33 +20,38 @@ finish-requires c κs = search needs
 
 returns : tie.Need-returns
 returns c =
-    let args = c .before .before .before .before .before .args in
-    let skip-slashes = c .before .before .skip-slashes in
-    let if1 = c .before .if1 in
+    let at-skip = c .before .before in
+    let args = at-skip .before .before .before .args in
     let path = now (args .path) in
-    c .finish .ensures ∙ begin-ended (now (args .image)) path path (args .k) (args .p) (args .directory) (sym (start-past path) ∙ sym (skip-slashes .ensures) ∙ if1 .taken)
+    c .finish .ensures
+    ∙ begin-ended (now (args .image)) path path (args .k) (args .p) (args .directory)
+    (sym (start-past path) ∙ sym (at-skip .skip-slashes .ensures) ∙ c .before .if1 .taken)
 
 slice-aggregate-run : tie.Need-slice-aggregate-run
 slice-aggregate-run c = search needs
 
 run-requires : tie.Need-run-requires
 run-requires c κs =
-    let args = c .before .before .before .before .before .args in
-    let pre = c .before .before .before .before .before .pre in
-    let skip-slashes = c .before .before .skip-slashes in
-    let if1 = c .before .if1 in
+    let at-skip = c .before .before in
+    let start = at-skip .before .before .before in
+    let args = start .args in
+    let image = now (args .image) in
     let path = now (args .path) in
-    let e : skip-slashes .result ≡ slashes path = skip-slashes .ensures ∙ start-past path in
-    (pre .0, subst (λ m. Ready (now (args .image)) path _ (walkAt (args .p) (args .directory) m)) (sym e) (begin-ready (now (args .image)) path _ (args .k) (args .p) (args .directory) (pre .1) (pre .2) refl (omega (arith, e, start-past path, past-within path 0 (omega arith), if1 .left))))
+    let at : at-skip .skip-slashes .result ≡ slashes path = at-skip .skip-slashes .ensures ∙ start-past path in
+    let some-left : slashes path < length path = omega (arith, at, start-past path, past-within path 0 (omega arith), c .before .if1 .left) in
+    let ready = begin-ready image path _ (args .k) (args .p) (args .directory) (start .pre .1) (start .pre .2) refl some-left in
+    (start .pre .0, subst (λ m. Ready image path _ (walkAt (args .p) (args .directory) m)) (sym at) ready)
 
 returns-2 : tie.Need-returns-2
 returns-2 c =
-    let args = c .before .before .before .before .before .before .before .args in
-    let skip-slashes = c .before .before .before .before .skip-slashes in
-    let run = c .before .run in
+    let at-skip = c .before .before .before .before in
+    let args = at-skip .before .before .before .args in
+    let image = now (args .image) in
     let path = now (args .path) in
-    let e : skip-slashes .result ≡ slashes path = skip-slashes .ensures ∙ start-past path in
-    run .ensures ∙ ap (λ m. rest (now (args .image)) (args .k) path _ (walkAt (args .p) (args .directory) m)) e ∙ begin-rest (now (args .image)) path _ (args .k) (args .p) (args .directory)
+    let at : at-skip .skip-slashes .result ≡ slashes path = at-skip .skip-slashes .ensures ∙ start-past path in
+    c .before .run .ensures
+    ∙ ap (λ m. rest image (args .k) path _ (walkAt (args .p) (args .directory) m)) at
+    ∙ begin-rest image path _ (args .k) (args .p) (args .directory)
 
 pub begin-spec : {M : Type 1} → statement M
 begin-spec =

@@ -1,5 +1,4 @@
 -- `resolver::needs_directory` meets its contract. Assumes nothing.
-use borrow.Author.Needs.{needs}
 use mathlib.Core.Path.{_∙_, sym}
 use native.Mathlib.Omega.{arith}
 use Rattle.resolver.proofs.needs_directory.Statement.{statement}

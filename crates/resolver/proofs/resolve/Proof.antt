@@ -29,10 +29,11 @@ returns c = (c .resolve-accepted .ensures .0, c .resolve-accepted .ensures .1, r
 
 returns-2 : tie.Need-returns-2
 returns-2 c =
-    let args = c .before .before .before .before .before .before .before .args in
-    let check = c .before .before .before .check in
-    let enum-told2 = c .before .enum-told2 in
-    let e = c .stop .ensures ∙ broken-call (now (args .image)) (args .h) (now (args .path)) (now (args .how)) _ _ (sym (check .ensures .0) ∙ enum-told2 .given .1) in
+    let at-arm = c .before in
+    let at-check = at-arm .before .before in
+    let x = at-check .before .before .before .before .args in
+    let broken = sym (at-check .check .ensures .0) ∙ at-arm .enum-told2 .given .1 in
+    let e = c .stop .ensures ∙ broken-call (now (x .image)) (x .h) (now (x .path)) (now (x .how)) _ _ broken in
     (e, subst (λ a. Bounded (progressOf a)) (sym e) (every-walk-bounded _ _), refl, refl, refl)
 
 pub resolve-spec : {M : Type 1} → statement M

@@ -24,10 +24,9 @@ stop-requires c κs = search needs
 returns-2 : tie.Need-returns-2
 unfolding walkPath answer forbids row firstSet
 returns-2 c =
-    let is-absolute = c .before .before .before .is-absolute in
-    let if1 = c .before .before .if1 in
-    let if2 = c .before .if2 in
-    c .stop .ensures ∙ rw (sym (is-absolute .ensures) ∙ not-false _ (if1 .left), if2 .taken)
+    let at-if2 = c .before in
+    let at-if1 = at-if2 .before in
+    c .stop .ensures ∙ rw (sym (at-if1 .before .is-absolute .ensures) ∙ not-false _ (at-if1 .if1 .left), at-if2 .if2 .taken)
 
 has-requires : tie.Need-has-requires
 has-requires c κs = omega arith
@@ -38,12 +37,11 @@ stop-requires-2 c κs = search needs
 returns-3 : tie.Need-returns-3
 unfolding walkPath answer forbids row firstSet
 returns-3 c =
-    let is-absolute = c .before .before .before .before .before .is-absolute in
-    let if1 = c .before .before .before .before .if1 in
-    let if2 = c .before .before .before .if2 in
-    let has = c .before .before .has in
-    let if3 = c .before .if3 in
-    c .stop2 .ensures ∙ rw (sym (is-absolute .ensures) ∙ not-false _ (if1 .left), if2 .left, sym (has .ensures) ∙ if3 .taken)
+    let at-if3 = c .before in
+    let at-if2 = at-if3 .before .before in
+    let at-if1 = at-if2 .before in
+    c .stop2 .ensures
+    ∙ rw (sym (at-if1 .before .is-absolute .ensures) ∙ not-false _ (at-if1 .if1 .left), at-if2 .if2 .left, sym (at-if3 .before .has .ensures) ∙ at-if3 .if3 .taken)
 
 begin-requires-2 : tie.Need-begin-requires-2
 begin-requires-2 c κs = search needs
@@ -51,12 +49,11 @@ begin-requires-2 c κs = search needs
 returns-4 : tie.Need-returns-4
 unfolding walkPath answer forbids row firstSet
 returns-4 c =
-    let is-absolute = c .before .before .before .before .before .before .is-absolute in
-    let if1 = c .before .before .before .before .before .if1 in
-    let if2 = c .before .before .before .before .if2 in
-    let has = c .before .before .before .has in
-    let if3 = c .before .before .if3 in
-    c .begin2 .ensures ∙ rw (sym (is-absolute .ensures) ∙ not-false _ (if1 .left), if2 .left, sym (has .ensures) ∙ if3 .left)
+    let at-if3 = c .before .before in
+    let at-if2 = at-if3 .before .before in
+    let at-if1 = at-if2 .before in
+    c .begin2 .ensures
+    ∙ rw (sym (at-if1 .before .is-absolute .ensures) ∙ not-false _ (at-if1 .if1 .left), at-if2 .if2 .left, sym (at-if3 .before .has .ensures) ∙ at-if3 .if3 .left)
 
 pub walk-path-spec : {M : Type 1} → statement M
 walk-path-spec =

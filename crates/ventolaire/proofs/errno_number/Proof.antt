@@ -1,83 +1,34 @@
 -- `ventolaire::errno_number` meets its contract: each arm is the errno's own number. Assumes nothing.
 use borrow.Author.Needs.{needs}
-use mathlib.Core.Path.{sym, ap}
+use mathlib.Core.Path.{_≡_, sym, ap}
 use Rattle.model.specs.Answers.{errnoNumber}
+use Rattle.model.specs.declared.Errno.{Errno}
 use Rattle.ventolaire.proofs.errno_number.Statement.{statement}
 use Rattle.ventolaire.proofs.errno_number.Tie as tie
 
-enum-told : tie.Need-enum-told
-enum-told c = search needs
-
-enum-told-2 : tie.Need-enum-told-2
-enum-told-2 c = search needs
-
-enum-told-3 : tie.Need-enum-told-3
-enum-told-3 c = search needs
-
-enum-told-4 : tie.Need-enum-told-4
-enum-told-4 c = search needs
-
-enum-told-5 : tie.Need-enum-told-5
-enum-told-5 c = search needs
-
-enum-told-6 : tie.Need-enum-told-6
-enum-told-6 c = search needs
-
-enum-told-7 : tie.Need-enum-told-7
-enum-told-7 c = search needs
-
-enum-told-8 : tie.Need-enum-told-8
-enum-told-8 c = search needs
-
-enum-told-9 : tie.Need-enum-told-9
-enum-told-9 c = search needs
-
-returns : tie.Need-returns
-returns c = sym (ap errnoNumber (c .enum-told .given .1))
-
-returns-2 : tie.Need-returns-2
-returns-2 c = sym (ap errnoNumber (c .enum-told2 .given .1))
-
-returns-3 : tie.Need-returns-3
-returns-3 c = sym (ap errnoNumber (c .enum-told3 .given .1))
-
-returns-4 : tie.Need-returns-4
-returns-4 c = sym (ap errnoNumber (c .enum-told4 .given .1))
-
-returns-5 : tie.Need-returns-5
-returns-5 c = sym (ap errnoNumber (c .enum-told5 .given .1))
-
-returns-6 : tie.Need-returns-6
-returns-6 c = sym (ap errnoNumber (c .enum-told6 .given .1))
-
-returns-7 : tie.Need-returns-7
-returns-7 c = sym (ap errnoNumber (c .enum-told7 .given .1))
-
-returns-8 : tie.Need-returns-8
-returns-8 c = sym (ap errnoNumber (c .enum-told8 .given .1))
-
-returns-9 : tie.Need-returns-9
-returns-9 c = sym (ap errnoNumber (c .enum-told9 .given .1))
+-- the number of an errno that is told
+arm : {e told : Errno} → e ≡ told → errnoNumber told ≡ errnoNumber e
+arm is = sym (ap errnoNumber is)
 
 pub errno-number-spec : {M : Type 1} → statement M
 errno-number-spec =
     tie.close
     (tie.spec
-    enum-told
-    enum-told-2
-    enum-told-3
-    enum-told-4
-    enum-told-5
-    enum-told-6
-    enum-told-7
-    enum-told-8
-    enum-told-9
-    returns
-    returns-2
-    returns-3
-    returns-4
-    returns-5
-    returns-6
-    returns-7
-    returns-8
-    returns-9)
+    (λ c. search needs)
+    (λ c. search needs)
+    (λ c. search needs)
+    (λ c. search needs)
+    (λ c. search needs)
+    (λ c. search needs)
+    (λ c. search needs)
+    (λ c. search needs)
+    (λ c. search needs)
+    (λ c. arm (c .enum-told .given .1))
+    (λ c. arm (c .enum-told2 .given .1))
+    (λ c. arm (c .enum-told3 .given .1))
+    (λ c. arm (c .enum-told4 .given .1))
+    (λ c. arm (c .enum-told5 .given .1))
+    (λ c. arm (c .enum-told6 .given .1))
+    (λ c. arm (c .enum-told7 .given .1))
+    (λ c. arm (c .enum-told8 .given .1))
+    (λ c. arm (c .enum-told9 .given .1)))

@@ -1,9 +1,10 @@
 -- `ventolaire::put2` meets its contract. Assumes nothing.
 use borrow.Author.Needs.{needs}
+use mathlib.Core.List.{[], _∷_}
 use native.Mathlib.Omega.{arith}
 use lib.ListN.{length-set}
 use denote.Ref.{now}
-use Rattle.ventolaire.proofs.OutLaws.{front-2}
+use Rattle.ventolaire.proofs.OutLaws.{front}
 use Rattle.ventolaire.proofs.put2.Statement.{statement}
 use Rattle.ventolaire.proofs.put2.Tie as tie
 
@@ -17,7 +18,7 @@ same-length : tie.Need-same-length
 same-length c = search needs
 
 returns : tie.Need-returns
-returns c = front-2 (now (c .args .out)) (c .args .a) (c .args .b) (c .pre)
+returns c = front (c .args .a ∷ c .args .b ∷ []) (now (c .args .out)) (c .pre)
 
 pub put2-spec : {M : Type 1} → statement M
 put2-spec = tie.close (tie.spec slice-write-out slice-write-out-2 same-length returns)

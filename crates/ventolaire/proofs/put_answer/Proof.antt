@@ -31,23 +31,24 @@ same-length c = search needs
 
 returns : tie.Need-returns
 returns c =
-    let args = c .before .before .before .before .before .before .before .before .before .before .args in
-    let a = c .before .before .before .before .before .before .before .a in
-    let put6 = c .before .before .put6 in
-    put6 .ensures ∙ ap (λ a. answerNumbers a ++ drop 6 (now (args .out))) (sym (a .given .1))
+    let at-put = c .before .before in
+    let at-arm = at-put .before .before .before .before .before in
+    let out = now (at-arm .before .before .before .args .out) in
+    at-put .put6 .ensures ∙ ap (λ a. answerNumbers a ++ drop 6 out) (sym (at-arm .a .given .1))
 
 same-length-2 : tie.Need-same-length-2
 same-length-2 c = search needs
 
 returns-2 : tie.Need-returns-2
 returns-2 c =
-    let args = c .before .before .before .before .before .before .before .before .before .before .before .args in
-    let a2 = c .before .before .before .before .before .before .before .before .a2 in
-    let errno-number = c .before .before .before .before .errno-number in
-    let put62 = c .before .before .put62 in
-    put62 .ensures
-    ∙ ap (λ n. n ∷ a2 .given .0 .0 .detail ∷ 0 ∷ 0 ∷ a2 .given .0 .0 .progress .components ∷ a2 .given .0 .0 .progress .links ∷ drop 6 (now (args .out))) (errno-number .ensures)
-    ∙ ap (λ a. answerNumbers a ++ drop 6 (now (args .out))) (sym (a2 .given .1))
+    let at-put = c .before .before in
+    let at-number = at-put .before .before in
+    let at-arm = at-number .before .before .before .before in
+    let out = now (at-arm .before .before .before .args .out) in
+    let r = at-arm .a2 .given .0 .0 in
+    at-put .put62 .ensures
+    ∙ ap (λ n. n ∷ r .detail ∷ 0 ∷ 0 ∷ r .progress .components ∷ r .progress .links ∷ drop 6 out) (at-number .errno-number .ensures)
+    ∙ ap (λ a. answerNumbers a ++ drop 6 out) (sym (at-arm .a2 .given .1))
 
 pub put-answer-spec : {M : Type 1} → statement M
 put-answer-spec =

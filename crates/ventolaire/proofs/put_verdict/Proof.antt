@@ -25,20 +25,20 @@ same-length c = search needs
 
 returns : tie.Need-returns
 returns c =
-    let args = c .before .before .before .before .before .before .before .args in
-    let enum-told = c .before .before .before .before .enum-told in
-    let put2 = c .before .before .put2 in
-    put2 .ensures ∙ ap (λ v. verdictNumbers v ++ drop 2 (now (args .out))) (sym (enum-told .given .1))
+    let at-put = c .before .before in
+    let at-arm = at-put .before .before in
+    let out = now (at-arm .before .before .before .args .out) in
+    at-put .put2 .ensures ∙ ap (λ v. verdictNumbers v ++ drop 2 out) (sym (at-arm .enum-told .given .1))
 
 same-length-2 : tie.Need-same-length-2
 same-length-2 c = search needs
 
 returns-2 : tie.Need-returns-2
 returns-2 c =
-    let args = c .before .before .before .before .before .before .before .before .args in
-    let v = c .before .before .before .before .before .v in
-    let put22 = c .before .before .put22 in
-    put22 .ensures ∙ ap (λ v. verdictNumbers v ++ drop 2 (now (args .out))) (sym (v .given .1))
+    let at-put = c .before .before in
+    let at-arm = at-put .before .before .before in
+    let out = now (at-arm .before .before .before .args .out) in
+    at-put .put22 .ensures ∙ ap (λ v. verdictNumbers v ++ drop 2 out) (sym (at-arm .v .given .1))
 
 pub put-verdict-spec : {M : Type 1} → statement M
 put-verdict-spec =

@@ -26,12 +26,13 @@ same-length c = search needs
 
 returns-2 : tie.Need-returns-2
 returns-2 c =
-    let args = c .before .before .before .before .before .before .before .before .args in
-    let if1 = c .before .before .before .before .before .if1 in
-    let check = c .before .before .before .check in
-    let put-verdict = c .before .before .put-verdict in
-    let n = tableCheck (now (args .image)) in
-    (verdict-writes n (now (args .out)) (put-verdict .last .0) (if1 .left) (put-verdict .ensures ∙ ap (λ v. verdictNumbers v ++ drop 2 (now (args .out))) (check .ensures .0)), refl)
+    let at-put = c .before .before in
+    let at-check = at-put .before in
+    let at-test = at-check .before .before in
+    let x = at-test .before .before .before .args in
+    let checked = ap (λ v. verdictNumbers v ++ drop 2 (now (x .out))) (at-check .check .ensures .0) in
+    let put = at-put .put-verdict in
+    (verdict-writes (tableCheck (now (x .image))) (now (x .out)) (put .last .0) (at-test .if1 .left) (put .ensures ∙ checked), refl)
 
 pub ventolaire-check-spec : {M : Type 1} → statement M
 ventolaire-check-spec =

@@ -8,7 +8,7 @@ use Rattle.model.specs.Bytes.{has, ascii}
 use Rattle.model.specs.OpenHow.{NO-XDEV, NO-MAGICLINKS, NO-SYMLINKS, BENEATH}
 use Rattle.model.specs.Trace.{Escape, Cross, Jump, mark, beneath, noXdev, noSymlinks, noMagiclinks, Restrictions}
 use Rattle.model.specs.Resolve.{Call, resolve}
-use Rattle.model.specs.BenchTree.{bench, callAt, at, error}
+use Rattle.model.proofs.BenchTree.{bench, callAt, at, error}
 use Rattle.model.specs.declared.Progress.{Progress}
 use Rattle.model.specs.declared.Errno.the-variants.{Enoent, Exdev}
 use Rattle.model.specs.declared.Answer.{Answer}

@@ -7,7 +7,7 @@ use lib.Dec.{ltb}
 use lib.ListN.{set}
 use Rattle.model.specs.Bytes.{fieldBytes, ascii}
 use Rattle.model.specs.Answers.{notWalked, refused}
-use Rattle.model.specs.OpenHow.{O-DIRECTORY, O-NOFOLLOW, O-PATH, NO-XDEV, NO-MAGICLINKS, NO-SYMLINKS, BENEATH, IN-ROOT}
+use Rattle.model.specs.OpenHow.{O-NOFOLLOW, O-PATH, NO-XDEV, NO-MAGICLINKS, NO-SYMLINKS, BENEATH, IN-ROOT}
 use Rattle.model.specs.Walk.{placeAt}
 use Rattle.model.specs.Resolve.{Call, callOf, resolve, placesOf}
 use Rattle.model.specs.declared.Place.{Place}
