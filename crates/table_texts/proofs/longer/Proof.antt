@@ -23,8 +23,8 @@ loop-holds c = (omega arith, omega arith, omega arith, refl)
 
 part-length-requires : tie.Need-part-length-requires Inv-loop μ-loop
 part-length-requires c κs =
-    let a = c .before .before .before .args in
-    record-fits (a .names) (c .before .loop .k) (a .count) _ (omega arith) (c .before .before .before .pre .0)
+    let d = c .before .before .before in
+    record-fits (d .args .names) (c .before .loop .k) (d .args .count) _ (d .pre .0) (omega arith)
 
 returns : tie.Need-returns Inv-loop μ-loop
 returns c =
