@@ -1,7 +1,7 @@
 -- `table_mounts::first_clash_of_few` meets its contract. The loop's invariant: the first clash is the first from here on. Assumes nothing.
 use borrow.Author.Needs.{needs}
 use Prim.Native.Nat.{_-_}
-use mathlib.Core.Path.{refl, sym, _∙_}
+use mathlib.Core.Path.{sym, _∙_}
 use native.Mathlib.Omega.{arith}
 use Rattle.model.specs.TableCheck.{sharesPoint}
 use Rattle.parts.proofs.FoundLaws.{first-hit, first-miss, first-none}
@@ -15,12 +15,6 @@ Inv-loop mounts end m₀ m = ClashFrom mounts end m
 
 abbrev μ-loop : tie.MeasureT-loop
 μ-loop mounts end m₀ m = end - m
-
-loop-holds : tie.Need-loop-holds Inv-loop μ-loop
-loop-holds c = record { within = omega (arith, c .before .pre .some); from-here = refl }
-
-shares-point-requires : tie.Need-shares-point-requires Inv-loop μ-loop
-shares-point-requires c κs = omega (arith, c .before .before .before .pre .whole)
 
 returns : tie.Need-returns Inv-loop μ-loop
 unfolding firstClash sharesPoint
@@ -39,8 +33,7 @@ first-clash-of-few-spec =
     (tie.spec
     Inv-loop
     μ-loop
-    loop-holds
-    shares-point-requires
+    (λ c. search needs) (λ c κs. search needs)
     returns
     (λ c. search needs) (λ c. search needs)
     loop-again

@@ -23,14 +23,6 @@ loop-holds c =
     let full = length-replicate {A = ℕ} 1024 0 in
     (record { within = omega (arith, c .before .pre .some); from-here = refl }, noted-none _ _ (omega arith), full)
 
-slice-aggregate-clashes : tie.Need-slice-aggregate-clashes Inv-loop μ-loop
-slice-aggregate-clashes c = sym (c .before .before .loop .inv .2)
-
-clashes-requires : tie.Need-clashes-requires Inv-loop μ-loop
-clashes-requires c κs =
-    let d = c .before .before in
-    (omega (arith, d .before .before .pre .whole), d .loop .inv .1)
-
 returns : tie.Need-returns Inv-loop μ-loop
 unfolding firstClash sharesPoint
 returns c =
@@ -55,8 +47,7 @@ first-clash-of-many-spec =
     Inv-loop
     μ-loop
     loop-holds
-    slice-aggregate-clashes
-    clashes-requires
+    (λ c. search needs) (λ c κs. search needs)
     returns
     (λ c. search needs) (λ c. search needs)
     loop-again

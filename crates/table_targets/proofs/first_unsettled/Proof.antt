@@ -26,9 +26,6 @@ loop-holds c =
     let e : c .before .args .c .nodes - 0 ≡ c .before .args .c .nodes = omega arith in
     (refl, record { within = omega arith; from-here = rw e })
 
-link-lead-requires : tie.Need-link-lead-requires Inv-loop μ-loop
-link-lead-requires c κs = (c .before .before .before .pre, omega arith)
-
 returns : tie.Need-returns Inv-loop μ-loop
 returns c =
     let d = c .before .before in
@@ -51,8 +48,7 @@ first-unsettled-spec =
     Inv-loop
     μ-loop
     loop-holds
-    link-lead-requires
-    (λ c κs. search needs)
+    (λ c κs. search needs) (λ c κs. search needs)
     returns
     (λ c. search needs) (λ c. search needs)
     loop-again

@@ -19,11 +19,6 @@ abbrev μ-loop : tie.MeasureT-loop
 loop-holds : tie.Need-loop-holds Inv-loop μ-loop
 loop-holds c = broken-start _ _ _ _ (omega arith)
 
-record-keeps-requires : tie.Need-record-keeps-requires Inv-loop μ-loop
-record-keeps-requires c κs =
-    let p = c .before .before .before .before .before .before .pre in
-    (p .0, p .1, p .2, omega arith)
-
 returns : tie.Need-returns Inv-loop μ-loop
 returns c = first-hit (c .before .before .before .loop .inv) (omega arith) (ap not (sym (c .before .record-keeps .ensures)) ∙ c .if1 .taken)
 
@@ -40,7 +35,7 @@ first-failing-spec =
     Inv-loop
     μ-loop
     loop-holds
-    record-keeps-requires
+    (λ c κs. search needs)
     returns
     (λ c. search needs) (λ c. search needs)
     loop-again

@@ -24,9 +24,6 @@ Inv-loop image c mount node end m₀ wanted m =
 abbrev μ-loop : tie.MeasureT-loop
 μ-loop image c mount node end m₀ wanted m = end - m
 
-add-m : tie.Need-add-m Inv-loop μ-loop
-add-m c = omega (arith, c .before .pre .0 .sized .few-mounts)
-
 returns : tie.Need-returns Inv-loop μ-loop
 returns c =
     let d = c .before .before in
@@ -36,25 +33,12 @@ returns c =
     let none-above = find-done (onPlace t (a .mount) (a .node)) (a .mount + 1) (t .mounts) (omega (arith, d .pre .0 .mounts-are)) in
     sym (ap searchOf (mount-on-above t mounts (a .mount) (a .node) (d .pre .2) ∙ none-above))
 
-mount-root-requires : tie.Need-mount-root-requires Inv-loop μ-loop
-mount-root-requires c κs =
-    let pre = c .before .before .pre in
-    (pre .0, pre .2)
-
 returns-2 : tie.Need-returns-2 Inv-loop μ-loop
 returns-2 c =
     let d = c .before .before .before .before in
     let a = d .args in
     let mounts = accepted-sound (now (a .image)) (d .pre .1) .mounts-hold in
     sym (ap searchOf (mount-on-root _ mounts (a .mount) (a .node) (d .pre .2) (c .if2 .taken ∙ c .before .mount-root .ensures .0)))
-
-mul-wanted : tie.Need-mul-wanted Inv-loop μ-loop
-mul-wanted c = omega (arith, c .before .before .before .before .pre .0 .sized .few-nodes)
-
-add-wanted : tie.Need-add-wanted Inv-loop μ-loop
-add-wanted c =
-    let pre = c .before .before .before .before .pre in
-    omega (arith, pre .0 .sized .few-nodes, pre .0 .sized .few-mounts)
 
 loop-holds : tie.Need-loop-holds Inv-loop μ-loop
 loop-holds c =
@@ -66,9 +50,6 @@ loop-holds c =
     let ends = ap (λ (k : ℕ). find (onPlace t (a .mount) (a .node)) (a .mount + 1) (k - (a .mount + 1))) (sym (p .0 .mounts-are)) in
     (p .0 .mounts-are, omega (arith, p .0 .mounts-are), from-above ∙ ends)
 
-packed-point-requires : tie.Need-packed-point-requires Inv-loop μ-loop
-packed-point-requires c κs = (c .before .before .before .before .before .before .pre .0, omega (arith, c .before .loop .inv .0))
-
 returns-3 : tie.Need-returns-3 Inv-loop μ-loop
 returns-3 c =
     let l = c .before .before .before .loop in
@@ -79,12 +60,6 @@ returns-3 c =
     let same = packed-same (t .mountParent (l .m)) (t .mountPoint (l .m)) (a .mount) (a .node) (point .1) (omega (arith, few)) (sym (point .0) ∙ c .if3 .taken) in
     let cut : l .m ≡ l .m % 65536 = omega (arith, l .inv .0, few) in
     sym (ap searchOf (l .inv .2 ∙ find-here _ (l .m) _ (c .before .before .loop-test .taken) same ∙ ap some cut))
-
-add-m-2 : tie.Need-add-m-2 Inv-loop μ-loop
-add-m-2 c =
-    let loop = c .before .before .before .loop in
-    let pre = c .before .before .before .before .before .before .before .before .pre in
-    omega (arith, loop .inv .0, pre .0 .sized .few-mounts)
 
 loop-again : tie.Need-loop-again Inv-loop μ-loop
 loop-again c =
@@ -106,16 +81,14 @@ find-mount-spec =
     (tie.spec
     Inv-loop
     μ-loop
-    add-m
-    returns
-    mount-root-requires
-    returns-2
-    mul-wanted
-    add-wanted
-    loop-holds
-    packed-point-requires
-    returns-3
-    add-m-2
     (λ c. search needs)
+    returns
+    (λ c κs. search needs)
+    returns-2
+    (λ c. search needs) (λ c. search needs)
+    loop-holds
+    (λ c κs. search needs)
+    returns-3
+    (λ c. search needs) (λ c. search needs)
     loop-again
     returns-4)

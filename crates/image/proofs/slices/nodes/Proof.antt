@@ -10,7 +10,7 @@ use Rattle.image.proofs.slices.nodes.Tie as tie
 
 part-result-end : tie.Need-part-result-end
 unfolding treeOf sizesOf
-part-result-end c = omega arith
+part-result-end c = search needs
 
 returns : tie.Need-returns
 unfolding nodesPart sizesOf
