@@ -8,9 +8,9 @@ use mathlib.Core.Logic.{⊎-elim}
 use native.Mathlib.Nat.{le-of-eq, le-trans, le-of-suc-le-suc, eq-or-lt-of-le}
 use native.Mathlib.Omega.{arith}
 use lib.Dec.{eqb, ltb, leb}
-use lib.ListN.{length, length-take, length-drop}
+use lib.ListN.{length, length-take}
 use borrow.Author.Tests.{ltb-true, leb-true, eqb-true, eq-eqb, not-true}
-use Rattle.model.specs.Bytes.{contains, sameBytes, ascii, part, firstFailing, orElse}
+use Rattle.model.specs.Bytes.{contains, part, firstFailing, orElse}
 use Rattle.model.specs.Tree.{Tree, sizesOf, textPart, treeOf, isDirectory, lookup, under, mountOn}
 use Rattle.model.specs.TableCheck.{unless, rule1, rule2, rule3, countsFit, wholeLength, directoryCount, sumBelow, countsBefore, directoryHolds, symlinkHolds, nodeHolds, rule4, nameHolds}
 use Rattle.model.specs.TableCheck.{ascends, standsInParent, entryHolds, rule5, pointHolds, sharesPoint, hangs, mountHolds, rule6, targetHolds, magicTargetHolds, rule7, breaks, recordsCheck}
@@ -88,7 +88,7 @@ body-short s n = simp length-take (omega arith)
 directory-rule : (t : Tree) → ((n : ℕ) → n < t .nodes → nodeHolds t n ≡ true) → (n : ℕ) → isDirectory t n ≡ true → directoryHolds t n ≡ true
 unfolding isDirectory nodeHolds
 directory-rule t holds n d =
-    let b = both (ltb n (t .nodes)) (eqb (t .kind n) 1) d in
+    let b = both _ _ d in
     let h = holds n (ltb-true _ _ (b .0)) in
     rw (b .1) at h
 
@@ -127,24 +127,28 @@ accepted-sound s e =
 module _ (t : Tree) (directories : DirectoriesHold t) where
   pub directory-below : (n : ℕ) → isDirectory t n ≡ true → n < t .nodes
   unfolding isDirectory
-  directory-below n d = ltb-true _ _ (both (ltb n (t .nodes)) (eqb (t .kind n) 1) d .0)
+  directory-below n d = ltb-true _ _ (both _ _ d .0)
 
   pub directory-kind : (n : ℕ) → isDirectory t n ≡ true → t .kind n ≡ 1
   unfolding isDirectory
-  directory-kind n d = eqb-true _ _ (both (ltb n (t .nodes)) (eqb (t .kind n) 1) d .1)
+  directory-kind n d = eqb-true _ _ (both (ltb n (t .nodes)) _ d .1)
 
-  -- a directory's parent
-  pub parent-directory : (n : ℕ) → isDirectory t n ≡ true → isDirectory t (t .parent n) ≡ true
+  -- a directory's parent, and where its entries begin
+  directory-facts : (n : ℕ) → isDirectory t n ≡ true → (isDirectory t (t .parent n) ≡ true) × (t .parent n ≤ n) × (t .first n ≡ countsBefore t n)
   unfolding directoryHolds
-  parent-directory n d = both (isDirectory t (t .parent n)) _ (both (isDirectory t (t .parent n) && leb (t .parent n) n) _ (directories .directory-holds n d) .0) .0
+  directory-facts n d =
+      let b = both _ _ (directories .directory-holds n d) in
+      let a = both _ _ (b .0) in
+      (a .0, leb-true _ _ (a .1), eqb-true _ _ (b .1))
+
+  pub parent-directory : (n : ℕ) → isDirectory t n ≡ true → isDirectory t (t .parent n) ≡ true
+  parent-directory n d = directory-facts n d .0
 
   pub parent-le : (n : ℕ) → isDirectory t n ≡ true → t .parent n ≤ n
-  unfolding directoryHolds
-  parent-le n d = leb-true _ _ (both (isDirectory t (t .parent n)) _ (both (isDirectory t (t .parent n) && leb (t .parent n) n) _ (directories .directory-holds n d) .0) .1)
+  parent-le n d = directory-facts n d .1
 
   pub first-sum : (n : ℕ) → isDirectory t n ≡ true → t .first n ≡ countsBefore t n
-  unfolding directoryHolds
-  first-sum n d = eqb-true _ _ (both (isDirectory t (t .parent n) && leb (t .parent n) n) _ (directories .directory-holds n d) .1)
+  first-sum n d = directory-facts n d .2
 
   pub counts-grow : (n m : ℕ) → n ≤ m → countsBefore t n ≤ countsBefore t m
   unfolding countsBefore sumBelow
@@ -170,32 +174,39 @@ module _ (t : Tree) (directories : DirectoriesHold t) where
       let l = find-some _ (t .first n) (t .count n) e f in
       omega (arith, l .below, entries-inside n d)
 
+-- a directory of an accepted table is one of its nodes
+pub accepted-below : (s : List ℕ) (n : ℕ) → tableCheck s ≡ Accepted → isDirectory (treeOf s) n ≡ true → n < treeOf s .nodes
+accepted-below s n e d = directory-below (treeOf s) (accepted-sound s e .nodes-hold .directories-hold) n d
+
 -- what rule 4 says of a symbolic link
 pub symlink-facts : (t : Tree) → NodesHold t → (n : ℕ) → n < t .nodes → t .kind n ≡ 3
     → (t .first n + t .count n ≤ t .textLength) × (1 ≤ t .count n) × (t .count n ≤ 4095) × (contains 0 (t .body n) ≡ false)
 unfolding nodeHolds symlinkHolds
 symlink-facts t nodes n h k =
-    let a = both (eqb (t .parent n) 0 && leb (t .first n + t .count n) (t .textLength) && leb 1 (t .count n) && leb (t .count n) 4095) (not (contains 0 (t .body n))) (rw k at (nodes .node-holds n h)) in
-    let b = both (eqb (t .parent n) 0 && leb (t .first n + t .count n) (t .textLength) && leb 1 (t .count n)) (leb (t .count n) 4095) (a .0) in
-    let c = both (eqb (t .parent n) 0 && leb (t .first n + t .count n) (t .textLength)) (leb 1 (t .count n)) (b .0) in
-    let d = both (eqb (t .parent n) 0) (leb (t .first n + t .count n) (t .textLength)) (c .0) in
+    let holds : symlinkHolds t n ≡ true = rw k at (nodes .node-holds n h) in
+    let a = both _ _ holds in
+    let b = both _ _ (a .0) in
+    let c = both _ _ (b .0) in
+    let d = both (eqb (t .parent n) 0) _ (c .0) in
     (leb-true _ _ (d .1), leb-true _ _ (c .1), leb-true _ _ (b .1), not-true _ (a .1))
 
 -- what the mounts say of one another
 module _ (t : Tree) (mounts : MountsHold t) where
-  pub root-directory : (m : ℕ) → m < t .mounts → isDirectory t (t .mountRoot m) ≡ true
+  mount-facts : (m : ℕ) → m < t .mounts → (isDirectory t (t .mountRoot m) ≡ true) × (hangs t m ≡ true)
   unfolding mountHolds
-  root-directory m h = both (isDirectory t (t .mountRoot m)) _ (both (isDirectory t (t .mountRoot m) && eqb (t .mountZero m) 0) _ (mounts .mount-holds m h) .0) .0
+  mount-facts m h =
+      let b = both _ _ (mounts .mount-holds m h) in
+      let a = both _ _ (b .0) in
+      (a .0, b .1)
 
-  mount-hangs : (m : ℕ) → m < t .mounts → hangs t m ≡ true
-  unfolding mountHolds
-  mount-hangs m h = both (isDirectory t (t .mountRoot m) && eqb (t .mountZero m) 0) _ (mounts .mount-holds m h) .1
+  pub root-directory : (m : ℕ) → m < t .mounts → isDirectory t (t .mountRoot m) ≡ true
+  root-directory m h = mount-facts m h .0
 
   -- mount 0 is its own parent, at its own root
   mount-0 : 0 < t .mounts → (t .mountParent 0 ≡ 0) × (t .mountPoint 0 ≡ t .mountRoot 0)
   unfolding hangs
   mount-0 h =
-      let k : (eqb (t .mountParent 0) 0 && eqb (t .mountPoint 0) (t .mountRoot 0)) ≡ true = mount-hangs zero h in
+      let k : (eqb (t .mountParent 0) 0 && eqb (t .mountPoint 0) (t .mountRoot 0)) ≡ true = mount-facts zero h .1 in
       let b = both _ _ k in
       (eqb-true _ _ (b .0), eqb-true _ _ (b .1))
 
@@ -203,7 +214,7 @@ module _ (t : Tree) (mounts : MountsHold t) where
   mount-above : (m : ℕ) → suc m < t .mounts → (t .mountParent (suc m) < suc m) × (pointHolds t (suc m) ≡ true) × (sharesPoint t (suc m) ≡ false)
   unfolding hangs
   mount-above m h =
-      let k : (ltb (t .mountParent (suc m)) (suc m) && pointHolds t (suc m) && not (sharesPoint t (suc m))) ≡ true = mount-hangs (suc m) h in
+      let k : (ltb (t .mountParent (suc m)) (suc m) && pointHolds t (suc m) && not (sharesPoint t (suc m))) ≡ true = mount-facts (suc m) h .1 in
       let b = both _ _ k in
       let c = both _ _ (b .0) in
       (ltb-true _ _ (c .0), c .1, not-true _ (b .1))
@@ -211,7 +222,7 @@ module _ (t : Tree) (mounts : MountsHold t) where
   pub point-directory : (m : ℕ) → m < t .mounts → isDirectory t (t .mountPoint m) ≡ true
   unfolding pointHolds
   point-directory zero h = subst (λ (n : ℕ). isDirectory t n ≡ true) (sym (mount-0 h .1)) (root-directory zero h)
-  point-directory (suc m) h = both (isDirectory t (t .mountPoint (suc m))) _ (both (isDirectory t (t .mountPoint (suc m)) && under t (t .mountPoint (suc m)) (t .mountRoot (t .mountParent (suc m)))) _ (mount-above m h .1) .0) .0
+  point-directory (suc m) h = both _ _ (both _ _ (mount-above m h .1) .0) .0
 
   pub mount-parent-lower : (m : ℕ) → 1 ≤ m → m < t .mounts → t .mountParent m < m
   mount-parent-lower zero l h = absurd (omega arith)
@@ -224,7 +235,7 @@ module _ (t : Tree) (mounts : MountsHold t) where
   point-not-root (suc m) l h e =
       let p = t .mountPoint (suc m) in
       let r = t .mountRoot (t .mountParent (suc m)) in
-      true≢false (sym (eq-eqb p r e) ∙ not-true (eqb p r) (both (isDirectory t p && under t p r) (not (eqb p r)) (mount-above m h .1) .1))
+      true≢false (sym (eq-eqb p r e) ∙ not-true (eqb p r) (both (isDirectory t p && under t p r) _ (mount-above m h .1) .1))
 
   pub mount-parent-below : (m : ℕ) → m < t .mounts → t .mountParent m < t .mounts
   mount-parent-below zero h = omega (arith, mount-0 h .0)
@@ -241,16 +252,10 @@ pub name-holds-facts : (t : Tree) (e : ℕ) → nameHolds t e ≡ true
     → (t .nameOffset e + t .nameLength e ≤ t .textLength) × (1 ≤ t .nameLength e) × (t .nameLength e ≤ 255)
 unfolding nameHolds
 name-holds-facts t e h =
-    let l = leb (t .nameOffset e + t .nameLength e) (t .textLength) in
-    let zero = not (contains 0 (t .name e)) in
-    let slash = not (contains 47 (t .name e)) in
-    let dot = not (sameBytes (t .name e) (ascii ".")) in
-    let a = both (l && leb 1 (t .nameLength e) && leb (t .nameLength e) 255 && zero && slash && dot) (not (sameBytes (t .name e) (ascii ".."))) h in
-    let b = both (l && leb 1 (t .nameLength e) && leb (t .nameLength e) 255 && zero && slash) dot (a .0) in
-    let c = both (l && leb 1 (t .nameLength e) && leb (t .nameLength e) 255 && zero) slash (b .0) in
-    let d = both (l && leb 1 (t .nameLength e) && leb (t .nameLength e) 255) zero (c .0) in
-    let f = both (l && leb 1 (t .nameLength e)) (leb (t .nameLength e) 255) (d .0) in
-    let g = both l (leb 1 (t .nameLength e)) (f .0) in
+    -- what stands behind the length's test: no zero byte, no slash, not "." and not ".."
+    let lengths = both _ _ (both _ _ (both _ _ (both _ _ h .0) .0) .0) .0 in
+    let f = both _ _ lengths in
+    let g = both _ _ (f .0) in
     (leb-true _ _ (g .0), leb-true _ _ (g .1), leb-true _ _ (f .1))
 
 -- what an accepted table's entries and links say
@@ -260,9 +265,9 @@ module _ (t : Tree) (sound : Sound t) where
       → (nameHolds t e ≡ true) × (t .entryNode e < t .nodes) × (ascends t e ≡ true) × (standsInParent t e ≡ true)
   unfolding entryHolds
   entry-facts e h =
-      let a = both (nameHolds t e && ltb (t .entryNode e) (t .nodes) && ascends t e) (standsInParent t e) (sound .entry-holds e h) in
-      let b = both (nameHolds t e && ltb (t .entryNode e) (t .nodes)) (ascends t e) (a .0) in
-      let c = both (nameHolds t e) (ltb (t .entryNode e) (t .nodes)) (b .0) in
+      let a = both _ _ (sound .entry-holds e h) in
+      let b = both _ _ (a .0) in
+      let c = both _ _ (b .0) in
       (c .0, ltb-true _ _ (c .1), b .1, a .1)
 
   -- an accepted entry's name lies in the text, and has 1 to 255 bytes
@@ -280,13 +285,8 @@ module _ (t : Tree) (sound : Sound t) where
   pub body-small : (n : ℕ) → n < t .nodes → t .kind n ≡ 3 → length (t .body n) ≤ 4095
   body-small n h k = le-trans (sound .body-length n) (symlink-facts t (sound .nodes-hold) n h k .2)
 
--- a name or a body that lies inside the text has its full length
+-- a name that lies inside the text has its full length
 pub name-whole : (s : List ℕ) (e : ℕ) → Sized s → treeOf s .nameOffset e + treeOf s .nameLength e ≤ treeOf s .textLength
     → length (treeOf s .name e) ≡ treeOf s .nameLength e
 unfolding treeOf
 name-whole s e z h = part-whole (textPart (sizesOf s) s) _ _ (omega (arith, text-length s z))
-
-pub body-whole : (s : List ℕ) (n : ℕ) → Sized s → treeOf s .first n + treeOf s .count n ≤ treeOf s .textLength
-    → length (treeOf s .body n) ≡ treeOf s .count n
-unfolding treeOf
-body-whole s n z h = part-whole (textPart (sizesOf s) s) _ _ (omega (arith, text-length s z))

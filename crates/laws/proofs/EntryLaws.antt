@@ -1,17 +1,17 @@
 -- Laws of entries and the directories that hold them: over directories that keep rule 4 each entry is in one directory. Assumes nothing.
 use Prim.Native.Nat.{ℕ, suc, _+_, _-_, _≤_, _<_}
-use mathlib.Core.Bool.{Bool, true, false, _&&_, _||_, and-false, true≢false}
+use mathlib.Core.Bool.{Bool, true, false, _&&_, and-false}
 use mathlib.Core.Logic.{⊎-elim}
 use mathlib.Core.Path.{_≡_, refl, sym, ap, _∙_, subst}
 use native.Mathlib.Nat.{eq-or-lt-of-le}
 use native.Mathlib.Omega.{arith}
 use borrow.Author.Tests.{ltb-true, leb-true, lt-ltb, le-leb, eqb-true, eqb-false, eq-eqb, ne-eqb}
-use lib.Dec.{eqb, ltb, leb}
+use lib.Dec.{eqb, ltb}
 use Rattle.model.specs.Bytes.{before, find, isSome}
-use Rattle.model.specs.Tree.{Tree, isDirectory, isLink, holds}
-use Rattle.model.specs.TableCheck.{nodeHolds, follows, ascends, standsInParent}
+use Rattle.model.specs.Tree.{Tree, isDirectory, holds}
+use Rattle.model.specs.TableCheck.{follows, ascends, standsInParent}
 use Rattle.laws.specs.Held.{Held}
-use Rattle.laws.specs.Acceptance.{DirectoriesHold, NodesHold}
+use Rattle.laws.specs.Acceptance.{DirectoriesHold}
 use Rattle.laws.proofs.Acceptance.{directory-below, directory-kind, first-sum, counts-grow, counts-next}
 use Rattle.laws.proofs.ByteLaws.{find-exists, find-absent}
 use Rattle.laws.proofs.Cases.{both, below-or}
@@ -19,8 +19,8 @@ use Rattle.laws.proofs.Cases.{both, below-or}
 pub holds-held : (t : Tree) (n e : ℕ) → holds t n e ≡ true → Held t n e
 unfolding holds
 holds-held t n e h =
-    let a = both (isDirectory t n && leb (t .first n) e) (ltb e (t .first n + t .count n)) h in
-    let b = both (isDirectory t n) (leb (t .first n) e) (a .0) in
+    let a = both _ _ h in
+    let b = both _ _ (a .0) in
     record { directory = b .0; from = leb-true _ _ (b .1); below = ltb-true _ _ (a .1) }
 
 pub held-holds : (t : Tree) (n e : ℕ) → Held t n e → holds t n e ≡ true
@@ -110,13 +110,3 @@ is-directory t n h k = rw (lt-ltb n (t .nodes) h, eq-eqb (t .kind n) 1 k)
 pub not-directory : (t : Tree) (n : ℕ) → (t .kind n ≡ 1 → ⊥) → isDirectory t n ≡ false
 unfolding isDirectory
 not-directory t n k = rw (ne-eqb (t .kind n) 1 k) (and-false (ltb n (t .nodes)))
-
--- over nodes that keep rule 4, what is neither a directory nor a file is a link
-pub link-kind : (t : Tree) → NodesHold t → (n : ℕ) → n < t .nodes → (t .kind n ≡ 1 → ⊥) → (t .kind n ≡ 2 → ⊥) → isLink t n ≡ true
-unfolding isLink nodeHolds
-link-kind t nodes n h d f = by (eqb (t .kind n) 3) (eqb (t .kind n) 4) refl refl
-  where
-    by : (b c : Bool) → eqb (t .kind n) 3 ≡ b → eqb (t .kind n) 4 ≡ c → (b || c) ≡ true
-    by true c e g = refl
-    by false true e g = refl
-    by false false e g = absurd (true≢false (sym (nodes .node-holds n h) ∙ rw (ne-eqb (t .kind n) 1 d, ne-eqb (t .kind n) 2 f, e, g)))

@@ -26,7 +26,10 @@ fails false h = refl
 
 module _ (t : Tree) (mounts : MountsHold t) (mount node : ℕ) (h : mount < t .mounts) where
   not-below : (k : ℕ) → 1 ≤ k → k < mount + 1 → onPlace t mount node k ≡ false
-  not-below k l u = fails _ (λ e. omega (arith, mount-parent-lower t mounts k l (omega arith), eqb-true (t .mountParent k) mount (both (eqb (t .mountParent k) mount) (eqb (t .mountPoint k) node) e .0)))
+  not-below k l u =
+      fails _ (λ e.
+      let parent = eqb-true (t .mountParent k) mount (both _ (eqb (t .mountPoint k) node) e .0) in
+      omega (arith, mount-parent-lower t mounts k l (omega arith), parent))
 
   pub mount-on-above : mountOn t (placeAt mount node) ≡ find (onPlace t mount node) (mount + 1) (t .mounts - (mount + 1))
   unfolding mountOn
@@ -38,5 +41,5 @@ module _ (t : Tree) (mounts : MountsHold t) (mount node : ℕ) (h : mount < t .m
     where
       other : (k : ℕ) → 1 ≤ k → k < t .mounts → onPlace t mount node k ≡ true → ⊥
       other k l u f =
-          let b = both (eqb (t .mountParent k) mount) (eqb (t .mountPoint k) node) f in
+          let b = both _ _ f in
           point-not-root t mounts k l u (eqb-true _ _ (b .1) ∙ e ∙ ap (t .mountRoot) (sym (eqb-true _ _ (b .0))))

@@ -1,5 +1,5 @@
 -- Parts of a byte string: their fields, their own parts and their lengths, and the four parts of an image. Assumes nothing.
-use Prim.Native.Nat.{ℕ, zero, suc, _+_, _*_, _≤_, _<_}
+use Prim.Native.Nat.{ℕ, zero, suc, _+_, _-_, _*_, _≤_, _<_}
 use mathlib.Core.List.{List, [], _∷_}
 use mathlib.Core.Path.{_≡_, refl, sym, ap, ap₂, _∙_}
 use native.Mathlib.Omega.{arith}
@@ -8,6 +8,7 @@ use lib.Seq.{getD-take, getD-drop, take-take, drop-drop}
 use Rattle.model.specs.Bytes.{field, part}
 use Rattle.model.specs.Tree.{sizesOf, nodesPart, mountsPart, entriesPart, textPart, treeOf}
 use Rattle.laws.specs.Acceptance.{Sized}
+use Rattle.laws.proofs.StringLaws.{part-between}
 
 part-get : (s : List ℕ) (at count k : ℕ) → k < count → getD (part s at count) k 0 ≡ getD s (at + k) 0
 unfolding part
@@ -56,6 +57,16 @@ module _ (s : List ℕ) (z : Sized s) where
   unfolding textPart treeOf
   text-length = part-whole s _ (sizesOf s .text) (omega (arith, z .whole))
 
+-- a part of a part, cut out of the whole string between two positions
+pub part-inside : (s : List ℕ) (at count k n : ℕ) {x y z : ℕ} → x ≡ at → y ≡ k → z ≡ n → k + n ≤ count
+    → take (x + y + z - (x + y)) (drop (x + y) s) ≡ part (part s at count) k n
+part-inside s at count k n {x} {y} e f g h =
+    part-between s (at + k) n _ _ (ap₂ _+_ e f) (ap (λ (m : ℕ). x + y + m) g) ∙ sym (part-part s at count k n h)
+
 -- a field of a part, read in the whole string
 pub part-column : (width : ℕ) (s : List ℕ) (at count k x : ℕ) → k + width ≤ count → x ≡ at + k → field width s x ≡ field width (part s at count) k
 part-column width s at count k x h e = ap (field width s) e ∙ sym (field-part width s at count k h)
+
+pub read-column : (width : ℕ) (s : List ℕ) (at count k x : ℕ) {r most : ℕ} → (r ≡ field width s x) × (r < most) → k + width ≤ count → x ≡ at + k
+    → (r ≡ field width (part s at count) k) × (r < most)
+read-column width s at count k x is h e = (is .0 ∙ part-column width s at count k x h e, is .1)

@@ -2,7 +2,7 @@
 use Prim.Native.Nat.{ℕ, _+_, _-_, _≤_, _<_}
 use mathlib.Core.Bool.{Bool, true, false}
 use mathlib.Core.Option.{Option, none, some}
-use mathlib.Core.Path.{_≡_, refl, sym, ap, _∙_, subst}
+use mathlib.Core.Path.{_≡_, refl, sym, ap, _∙_}
 use native.Mathlib.Omega.{arith}
 use Rattle.model.specs.Bytes.{find}
 use Rattle.laws.proofs.ByteLaws.{find-none, find-some, find-here, find-on, find-done}
@@ -18,6 +18,23 @@ module _ (p : ℕ → Bool) (at end : ℕ) where
 
   pub found-done : end ≤ at → foundOr end (find p at (end - at)) ≡ end
   found-done h = ap (foundOr end) (find-done p at end h)
+
+-- A loop that searches up to `end`, and stands at k: `first`, which it looks for, is the first from k on.
+pub record FirstFrom (p : ℕ → Bool) (end first k : ℕ) : Type 0 where
+  pub within : k ≤ end
+  pub from-here : first ≡ foundOr end (find p k (end - k))
+
+module _ {p : ℕ → Bool} {end first k : ℕ} (seen : FirstFrom p end first k) where
+  pub first-hit : k < end → p k ≡ true → k ≡ first
+  first-hit l e = sym (seen .from-here ∙ found-here p k end l e)
+
+  pub first-miss : k < end → p k ≡ false → FirstFrom p end first (k + 1)
+  first-miss l e = record { within = omega arith; from-here = seen .from-here ∙ found-on p k end l e }
+
+  pub first-none : end ≤ k → k ≡ first
+  first-none u =
+      let e : k ≡ end = omega (arith, seen .within) in
+      e ∙ sym (seen .from-here ∙ found-done p k end u)
 
 -- what is found: the lowest number that passes, or the end where none does
 pub record Found (p : ℕ → Bool) (at end k : ℕ) : Type 0 where

@@ -25,6 +25,16 @@ ghost use Rattle.model.specs.TableCheck.{countsFit, wholeLength, recordsCheck, 
 ghost use Rattle.parts.specs.Parts.{partsTree, NodeRecords, MountRecords, EntryRecords};
 ghost use Rattle.image.specs.Counts.{countsOf};
 
+// The most bytes that an image has.
+const MOST_IMAGE: usize = 65536;
+
+// The most nodes, mounts and entries that a table has.
+const MOST_NODES: usize = 4096;
+
+const MOST_MOUNTS: usize = 256;
+
+const MOST_ENTRIES: usize = 4096;
+
 // Rule 2.
 fn is_signed(image: &[u8]) -> bool
     requires { ⌜ 20 ≤ length (now image) ⌝ }
@@ -45,16 +55,16 @@ fn sizes_fit(image: &[u8], c: Counts, text: usize) -> bool
     if c.nodes == 0 {
         return false;
     }
-    if 4096 < c.nodes {
+    if MOST_NODES < c.nodes {
         return false;
     }
     if c.mounts == 0 {
         return false;
     }
-    if 256 < c.mounts {
+    if MOST_MOUNTS < c.mounts {
         return false;
     }
-    if 4096 < c.entries {
+    if MOST_ENTRIES < c.entries {
         return false;
     }
     let whole = 20 + 12 * c.nodes + 8 * c.mounts + 8 * c.entries + text;
@@ -95,7 +105,7 @@ pub fn check(image: &[u8]) -> Verdict
     if image.len() < 20 {
         return Verdict::Broken { rule: 1, record: 0 };
     }
-    if 65536 < image.len() {
+    if MOST_IMAGE < image.len() {
         return Verdict::Broken { rule: 1, record: 0 };
     }
     if !is_signed(image) {

@@ -32,7 +32,7 @@ fn is_dots(s: &[u8]) -> bool
     requires { ⌜ 1 ≤ length (now s) ⌝ }
     ensures { λ r. ⌜ r ≡ sameBytes (now (s .entry)) (ascii ".") || sameBytes (now (s .entry)) (ascii "..") ⌝ }
 {
-    if s[0] != 46 {
+    if s[0] != b'.' {
         return false;
     }
     if s.len() == 1 {
@@ -41,8 +41,11 @@ fn is_dots(s: &[u8]) -> bool
     if s.len() != 2 {
         return false;
     }
-    s[1] == 46
+    s[1] == b'.'
 }
+
+// The most bytes that a name has.
+const MOST_NAME: usize = 255;
 
 // The names of entries below `sure` are known to have no zero byte and no slash.
 pub fn name_holds(entries: &[u8], text: &[u8], c: Counts, e: usize, sure: usize) -> bool
@@ -56,7 +59,7 @@ pub fn name_holds(entries: &[u8], text: &[u8], c: Counts, e: usize, sure: usize)
     if length == 0 {
         return false;
     }
-    if 255 < length {
+    if MOST_NAME < length {
         return false;
     }
     let s = name(entries, text, e);

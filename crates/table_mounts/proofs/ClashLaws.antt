@@ -9,11 +9,19 @@ use borrow.Author.Tests.{eqb-true, eqb-false}
 use lib.Dec.{eqb}
 use lib.ListN.{length, getD, set, length-set}
 use lib.Seq.{getD-set-same, getD-set-other}
-use Rattle.model.specs.Bytes.{isSome}
+use Rattle.model.specs.Bytes.{find, isSome}
 use Rattle.model.specs.Tree.{mountParentIn, mountPointIn}
 use Rattle.model.specs.TableCheck.{sharesPoint}
 use Rattle.laws.proofs.ByteLaws.{find-absent}
+use Rattle.parts.specs.Searches.{foundOr}
+use Rattle.parts.proofs.FoundLaws.{FirstFrom}
 use Rattle.table_mounts.specs.Clashes.{uncounted, slotOf, Noted}
+
+-- the search for the first clash stands at mount m
+abbrev pub ClashFrom : List ℕ → ℕ → ℕ → Type 0
+ClashFrom mounts end m =
+    let shares : ℕ → Bool = λ k. sharesPoint (uncounted mounts) k in
+    FirstFrom shares end (foundOr end (find shares 1 (end - 1))) m
 
 -- before any other mount
 pub noted-none : (mounts points : List ℕ) → 1024 ≤ length points → Noted mounts 1 points

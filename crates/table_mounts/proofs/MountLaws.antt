@@ -18,13 +18,9 @@ use Rattle.table_leads.specs.Leads.{hangsLead, mountLead, settled, keeps, broke
 use Rattle.table_leads.specs.declared.Lead.the-variants.{Settled, Dangling}
 use Rattle.parts.proofs.FoundLaws.{Found, found, found-here, found-on}
 use Rattle.table_leads.proofs.LeadLaws.{mount-keeps}
-use Rattle.table_mounts.specs.Clashes.{uncounted, firstClash}
+use Rattle.table_mounts.specs.Clashes.{firstClash}
 
 -- the points that mounts share hang on the mount records alone
-pub shares-alike : (c : Counts) (nodes mounts : List ℕ) (m : ℕ) → sharesPoint (uncounted mounts) m ≡ sharesPoint (mountsTree c nodes mounts) m
-unfolding sharesPoint
-shares-alike c nodes mounts m = refl
-
 pub clash-alike : (c : Counts) (nodes mounts : List ℕ) → firstClash (mountsTree c [] mounts) ≡ firstClash (mountsTree c nodes mounts)
 unfolding firstClash sharesPoint
 clash-alike c nodes mounts = refl

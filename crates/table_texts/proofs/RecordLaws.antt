@@ -11,11 +11,11 @@ use lib.ListN.{length}
 use Rattle.model.specs.Bytes.{part, contains, find}
 use Rattle.model.specs.TableCheck.{sumBelow}
 use Rattle.parts.specs.Searches.{foundOr}
-use Rattle.parts.proofs.FoundLaws.{found, found-here, found-on, found-done}
+use Rattle.parts.proofs.FoundLaws.{found, FirstFrom}
 use Rattle.strings.proofs.PartLaws.{neither, not-in-part}
 use Rattle.laws.proofs.Cases.{below-or, both}
 use Rattle.text_marks.specs.Barred.{holdsBarred}
-use Rattle.table_texts.specs.Barred.{recordSize, partStart, partLength, recordBarred, firstBarred, seenClean, longerThan, isMarked}
+use Rattle.table_texts.specs.Barred.{recordSize, partStart, partLength, recordBarred, firstBarred, fewRecords, sureRecords, seenClean, longerThan, isMarked}
 
 module _ (names : Bool) (records text : List ℕ) where
   -- a part that ends after the text, and one that does not
@@ -33,25 +33,13 @@ module _ (names : Bool) (records text : List ℕ) where
         let g : count ≡ end - start = omega arith in
         rw (le-leb (at + count) (length text) (omega arith)) (ap₂ (λ (i n : ℕ). holdsBarred names (part text i n)) (sym e) g)
 
-  -- the first, by those before a number
-  module _ (count k : ℕ) where
-    -- those before it are not barred
-    abbrev pub NoneBefore : Type 0
-    NoneBefore = firstBarred names records text count ≡ foundOr count (find (λ i. recordBarred names records text i) k (count - k))
-
-    module _ (seen : NoneBefore) where
-      pub first-hit : k < count → recordBarred names records text k ≡ true → k ≡ firstBarred names records text count
-      first-hit l e = sym (seen ∙ found-here (λ i. recordBarred names records text i) k count l e)
-
-      pub first-none : k ≤ count → count ≤ k → k ≡ firstBarred names records text count
-      first-none l u = omega arith ∙ sym (seen ∙ found-done (λ i. recordBarred names records text i) k count u)
+  -- the search for the first stands at a record
+  abbrev pub NoneBefore : ℕ → ℕ → Type 0
+  NoneBefore count k = FirstFrom (λ i. recordBarred names records text i) count (firstBarred names records text count) k
 
   pub first-start : (count : ℕ) → NoneBefore count 0
   unfolding firstBarred
-  first-start count = let e : count - 0 ≡ count = omega arith in rw e
-
-  pub first-miss : (count k : ℕ) → NoneBefore count k → k < count → recordBarred names records text k ≡ false → NoneBefore count (k + 1)
-  first-miss count k seen l e = seen ∙ found-on (λ i. recordBarred names records text i) k count l e
+  first-start count = let e : count - 0 ≡ count = omega arith in record { within = omega arith; from-here = rw e }
 
 -- no part of a clean string is barred
 clean-part : (names : Bool) (s : List ℕ) (at n : ℕ) → holdsBarred names s ≡ false → holdsBarred names (part s at n) ≡ false
@@ -123,9 +111,19 @@ module _ (names : Bool) (records : List ℕ) (count limit k sum : ℕ) where
       le-ltb limit _ (omega arith)
 
 -- a record lies where all lie
-pub record-fits : (names : Bool) (k count size : ℕ) → k < count → recordSize names * count ≤ size → recordSize names * k + recordSize names ≤ size
-record-fits true k count size h l = omega arith
-record-fits false k count size h l = omega arith
+pub record-fits : (names : Bool) (k count size : ℕ) → recordSize names * count ≤ size → k < count → recordSize names * k + recordSize names ≤ size
+record-fits true k count size l h = omega arith
+record-fits false k count size l h = omega arith
+
+-- a kind that a test has told
+pub kind-fits : {names kind : Bool} → names ≡ kind → (count size : ℕ) → recordSize names * count ≤ size → recordSize kind * count ≤ size
+kind-fits e count size h = rw e at h
+
+-- past the few records: the first barred one, found in what was lent
+pub sure-first : {names kind : Bool} {r s t u : List ℕ} {first : ℕ} (count : ℕ) → fewRecords names t count ≡ false → names ≡ kind → s ≡ r → u ≡ t
+    → first ≡ firstBarred kind s u count → first ≡ sureRecords names r t count
+unfolding sureRecords
+sure-first count few e f g h = rw few (cc)
 
 -- what an "if" on the records' kind gave
 pub given : {n x y : ℕ} (names : Bool) → ((names ≡ true) × (n ≡ x)) ⊎ ((names ≡ false) × (n ≡ y)) → n ≡ cond names x y

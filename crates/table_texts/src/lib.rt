@@ -15,7 +15,10 @@ ghost use lib.ListN.{length};
 ghost use Rattle.text_marks.specs.Marks.{Marked};
 ghost use Rattle.table_texts.specs.Barred.{recordSize, partStart, partLength, recordBarred, firstBarred, fewRecords, sureRecords, seenClean, longerThan, isMarked};
 
-// So many blocks of 64 bytes begin in a text of at most 65,535.
+// The most bytes of a text that is marked.
+const MOST_MARKED: usize = 65535;
+
+// So many blocks of 64 bytes begin in such a text.
 const BLOCKS: usize = 1024;
 
 fn part_start(records: &[u8], names: bool, k: usize) -> usize
@@ -152,7 +155,7 @@ fn is_marked(records: &[u8], text: &[u8], count: usize, names: bool) -> bool
     requires { ⌜ (recordSize names * count ≤ length (now records)) × (count ≤ 4096) ⌝ }
     ensures { λ r. ⌜ r ≡ isMarked names (now (records .entry)) (now (text .entry)) count ⌝ }
 {
-    if 65535 < text.len() {
+    if MOST_MARKED < text.len() {
         return false;
     }
     if 256 + text.len() / 64 < count {

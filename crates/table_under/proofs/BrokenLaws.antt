@@ -1,33 +1,24 @@
 -- Laws of the search for a record that breaks its rule, one record at a time, and of what the bits say of a lead. Assumes nothing.
-use Prim.Native.Nat.{ℕ, _+_, _≤_, _<_}
-use mathlib.Core.Bool.{Bool, true, false, cond, not}
-use mathlib.Core.Path.{_≡_, sym, ap}
+use Prim.Native.Nat.{ℕ, _≤_, _<_}
+use mathlib.Core.Bool.{Bool, cond, not}
+use mathlib.Core.Path.{_≡_, refl, sym}
 use borrow.Author.Tests.{ltb-true}
 use lib.Dec.{eqb, ltb}
 use Rattle.model.specs.Tree.{Tree, isDirectory}
-use Rattle.laws.proofs.ByteLaws.{find-here, find-on, find-done}
 use Rattle.laws.proofs.Cases.{both}
-use Rattle.parts.specs.Searches.{foundOr}
+use Rattle.parts.proofs.FoundLaws.{FirstFrom}
 use Rattle.table_leads.specs.Leads.{leadBy, keeps, brokenFrom}
 use Rattle.table_leads.specs.declared.Lead.the-variants.{Into}
 use Rattle.table_leads.proofs.LeadLaws.{into-facts}
 use Rattle.table_under.specs.Rows.{Chart, Charted, within}
 
-module _ (links : Bool) (t : Tree) (k end : ℕ) where
-  abbrev broken : ℕ → Bool
-  broken i = not (keeps t (leadBy links t i))
+-- the search for the lowest record from `from` on that breaks its rule stands at k
+abbrev pub BrokenAt : Bool → Tree → ℕ → ℕ → ℕ → Type 0
+BrokenAt links t from end k = FirstFrom (λ i. not (keeps t (leadBy links t i))) end (brokenFrom links t from end) k
 
-  pub broken-here : k < end → broken k ≡ true → brokenFrom links t k end ≡ k
-  unfolding brokenFrom
-  broken-here h e = ap (foundOr end) (find-here broken k end h e)
-
-  pub broken-on : k < end → broken k ≡ false → brokenFrom links t k end ≡ brokenFrom links t (k + 1) end
-  unfolding brokenFrom
-  broken-on h e = ap (foundOr end) (find-on broken k end h e)
-
-  pub broken-done : end ≤ k → brokenFrom links t k end ≡ end
-  unfolding brokenFrom
-  broken-done h = ap (foundOr end) (find-done broken k end h)
+pub broken-start : (links : Bool) (t : Tree) (from end : ℕ) → from ≤ end → BrokenAt links t from end from
+unfolding brokenFrom
+broken-start links t from end h = record { within = h; from-here = refl }
 
 -- what a lead is into, and what the bits say of it
 pub record Led (t : Tree) (s : Chart) (mount node : ℕ) : Type 0 where

@@ -1,21 +1,19 @@
 -- Laws of positions in a text: from a position at which a component starts, that component is left, and then those from the next
 -- such position on. Assumes nothing.
-use Prim.Native.Nat.{ℕ, zero, suc, _+_, _-_, _*_, _≤_, _<_}
+use Prim.Native.Nat.{ℕ, zero, suc, _+_, _-_, _≤_, _<_}
 use mathlib.Core.Bool.{true, false, true≢false}
 use mathlib.Core.List.{List, [], _∷_}
-use mathlib.Core.Logic.{_↔_, ⊎-elim}
+use mathlib.Core.Logic.{⊎-elim}
 use mathlib.Core.Path.{_≡_, refl, sym, ap, ap₂, _∙_, subst}
 use native.Mathlib.Omega.{arith}
 use native.Mathlib.Nat.{add-zero, zero-add, eq-or-lt-of-le}
 use lib.Dec.{eqb}
 use lib.ListN.{length, getD, take, drop, length-drop}
 use lib.Seq.{drop-drop, drop-length, getD-drop}
-use borrow.Author.Tests.{eq-eqb, ne-eqb, eqb-true}
-use Rattle.model.specs.Bytes.{contains}
+use borrow.Author.Tests.{eq-eqb, ne-eqb}
 use Rattle.model.specs.Path.{Component, isSlash, upToSlash, componentsFrom, components}
 use Rattle.model.specs.Walk.{isEmpty}
 use Rattle.laws.proofs.Cases.{cond-cases}
-use Rattle.laws.proofs.ComponentLaws.{components-from-few}
 use Rattle.text.specs.Positions.{slashes, pastSlashes, componentEnd, nextStart, componentBytes, componentAt, Stands, left}
 
 -- the bytes of a list before its first slash, by its first byte
@@ -33,11 +31,6 @@ up-part : (u : List ℕ) → upToSlash u ≡ take (length (upToSlash u)) u
 unfolding upToSlash
 up-part [] = refl
 up-part (b ∷ u) = up-cases (λ l. l ≡ take (length l) (b ∷ u)) b u (λ _. refl) (λ _. ap (λ (l : List ℕ). b ∷ l) (up-part u))
-
-up-free : (u : List ℕ) → contains 47 (upToSlash u) ≡ false
-unfolding upToSlash contains
-up-free [] = refl
-up-free (b ∷ u) = up-cases (λ l. contains 47 l ≡ false) b u (λ _. refl) (λ e. rw e (up-free u))
 
 up-ends : (u : List ℕ) → length (upToSlash u) < length u → isSlash (getD u (length (upToSlash u)) 0) ≡ true
 unfolding upToSlash
@@ -145,9 +138,6 @@ module _ (s : List ℕ) (at : ℕ) where
 
 -- the component at a position, and the next position
 module _ (s : List ℕ) (at : ℕ) where
-  pub next-within : at ≤ length s → nextStart s at ≤ length s
-  next-within h = past-within s (componentEnd s at) (end-within s at h)
-
   pub next-stands : at ≤ length s → Stands s (nextStart s at)
   next-stands h =
       past-stands s (componentEnd s at) (end-within s at h) (λ p l e. absurd (true≢false (sym (end-slash s at l) ∙ e)))
@@ -161,9 +151,6 @@ module _ (s : List ℕ) (at : ℕ) where
 
   pub bytes-length : length (componentBytes s at) ≡ componentEnd s at - at
   bytes-length = ap length (sym bytes-up) ∙ sym bytes-count
-
-  pub bytes-no-slash : contains 47 (componentBytes s at) ≡ false
-  bytes-no-slash = ap (contains 47) (sym bytes-up) ∙ up-free (drop at s)
 
 -- the components left from any position on
 module _ (x : ℕ) (s : List ℕ) where
@@ -183,10 +170,6 @@ module _ (x : ℕ) (s : List ℕ) where
   pub left-end : left x s (length s) ≡ []
   unfolding left componentsFrom
   left-end = rw (drop-length s)
-
-  pub left-count : (at : ℕ) → 2 * length (left x s at) ≤ length s - at + 1
-  unfolding left
-  left-count at = omega (arith, components-from-few x at (drop at s) .0, length-drop at s)
 
 -- the first position, as a call that skips slashes gives it
 pub start-past : (s : List ℕ) → pastSlashes s 0 ≡ slashes s
@@ -208,12 +191,6 @@ module _ (s : List ℕ) (at : ℕ) (stands : Stands s at) where
       let p = on-component h in
       omega (arith, up-some (drop at s) (p .0) (p .1))
 
-  pub next-after : at < length s → at < nextStart s at
-  next-after h = omega (arith, end-after h)
-
-  pub bytes-some : at < length s → 0 < length (componentBytes s at)
-  bytes-some h = omega (arith, end-after h, bytes-length s at)
-
   pub left-here : (x : ℕ) → at < length s → left x s at ≡ componentAt x s at ∷ left x s (nextStart s at)
   unfolding left
   left-here x h =
@@ -229,6 +206,3 @@ module _ (s : List ℕ) (at : ℕ) (stands : Stands s at) where
       (λ e. ap (λ (n : ℕ). isEmpty (left x s n)) e ∙ ap isEmpty (left-end x s) ∙ sym (eq-eqb at (length s) e))
       (λ h. ap isEmpty (left-here x h) ∙ sym (ne-eqb at (length s) (λ e. omega arith)))
       (eq-or-lt-of-le (stands .within))
-
-  pub left-none : (x : ℕ) → (left x s at ≡ []) ↔ (at ≡ length s)
-  left-none x = (λ e. eqb-true at (length s) (sym (left-empty x) ∙ ap isEmpty e), λ e. ap (left x s) e ∙ left-end x s)

@@ -172,7 +172,11 @@ module _ (names : Bool) (text : List ℕ) where
       let e : at + suc k ≡ (at + 1) + k = omega arith in
       let more : suc k + n ≡ suc (k + n) = omega arith in
       let halves : suc k ≡ 1 + k = omega arith in
-      ap (λ (x : ℕ). marks at x / 2 ^ suc k) more ∙ ap (λ (x : ℕ). m / 2 ^ x) halves ∙ sym (shr-shr m 1 k) ∙ ap (λ (x : ℕ). x / 2 ^ k) (halved (at-barred at) (marks (at + 1) (k + n))) ∙ marks-shift k n (at + 1)
+      ap (λ (x : ℕ). marks at x / 2 ^ suc k) more
+      ∙ ap (λ (x : ℕ). m / 2 ^ x) halves
+      ∙ sym (shr-shr m 1 k)
+      ∙ ap (λ (x : ℕ). x / 2 ^ k) (halved (at-barred at) (marks (at + 1) (k + n)))
+      ∙ marks-shift k n (at + 1)
       ∙ ap (λ (x : ℕ). marks x n) (sym e)
 
   -- no bit is set: nothing is barred

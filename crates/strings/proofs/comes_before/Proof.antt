@@ -6,12 +6,6 @@ use borrow.Author.Needs.{needs}
 use Rattle.strings.proofs.comes_before.Statement.{statement}
 use Rattle.strings.proofs.comes_before.Tie as tie
 
-big32-at-requires : tie.Need-big32-at-requires
-big32-at-requires c κs = omega (arith, c .deciding .ensures .within)
-
-big32-at-requires-2 : tie.Need-big32-at-requires-2
-big32-at-requires-2 c κs = omega (arith, c .before .deciding .ensures .within)
-
 returns-2 : tie.Need-returns-2
 returns-2 c =
     let at = c .before .before .before .deciding in
@@ -45,8 +39,7 @@ pub comes-before-spec : {M : Type 1} → statement M
 comes-before-spec =
     tie.close
     (tie.spec
-    (λ c κs. search needs) (λ c κs. search needs) (λ c. search needs) (λ c κs. search needs)
-    big32-at-requires
-    big32-at-requires-2
+    (λ c κs. search needs) (λ c κs. search needs) (λ c. search needs) (λ c κs. search needs) (λ c κs. search needs)
+    (λ c κs. search needs)
     returns-2
     returns-3)

@@ -39,7 +39,7 @@ returns-3 c =
 
 sizes-fit-requires : tie.Need-sizes-fit-requires
 unfolding treeOf
-sizes-fit-requires c κs = (omega arith, c .before .read-counts .ensures, c .text-length .ensures .0, c .text-length .ensures .1)
+sizes-fit-requires c κs = search needs
 
 returns-4 : tie.Need-returns-4
 unfolding tableCheck rule1 rule2 rule3

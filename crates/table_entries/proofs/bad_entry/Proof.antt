@@ -26,11 +26,6 @@ loop-holds c =
     let a = c .before .before .before .args in
     (refl, omega arith, rule5-start (entriesTree (a .c) (now (a .nodes)) (now (a .entries)) (now (a .text))))
 
-bad-in-node-requires : tie.Need-bad-in-node-requires Inv-loop μ-loop
-bad-in-node-requires c κs =
-    let pre = c .before .before .before .before .before .pre in
-    (pre .0, omega arith, pre .1)
-
 returns : tie.Need-returns Inv-loop μ-loop
 returns c =
     let a = c .before .before .before .before .before .before .before .before .before .args in
@@ -45,9 +40,6 @@ returns c =
 
 enum-told : tie.Need-enum-told Inv-loop μ-loop
 enum-told c = search needs
-
-ends-entries-requires : tie.Need-ends-entries-requires Inv-loop μ-loop
-ends-entries-requires c κs = (c .before .before .before .before .before .before .before .before .pre .0 .node-records, omega arith)
 
 returns-2 : tie.Need-returns-2 Inv-loop μ-loop
 returns-2 c =
@@ -91,11 +83,10 @@ bad-entry-spec =
     Inv-loop
     μ-loop
     loop-holds
-    bad-in-node-requires
-    (λ c. search needs)
+    (λ c κs. search needs) (λ c. search needs)
     returns
     enum-told
-    ends-entries-requires
+    (λ c κs. search needs)
     returns-2
     (λ c. search needs) (λ c. search needs)
     loop-again

@@ -1,6 +1,6 @@
 -- `table_entries::bad_in_node` meets its contract: a node that is no directory has no entries. Assumes nothing.
+use borrow.Author.Needs.{needs}
 use mathlib.Core.Path.{ap, _∙_, sym}
-use native.Mathlib.Omega.{arith}
 use denote.Ref.{now}
 use Rattle.laws.proofs.EntryLaws.{is-directory}
 use Rattle.parts.specs.Parts.{entriesTree}
@@ -8,9 +8,6 @@ use Rattle.parts.specs.Searches.{searchOf}
 use Rattle.table_entries.proofs.RangeLaws.{other-bad, directory-bad}
 use Rattle.table_entries.proofs.bad_in_node.Statement.{statement}
 use Rattle.table_entries.proofs.bad_in_node.Tie as tie
-
-node-kind-requires : tie.Need-node-kind-requires
-node-kind-requires c κs = omega (arith, c .before .before .before .pre .0 .node-records .whole)
 
 returns : tie.Need-returns
 returns c =
@@ -34,4 +31,4 @@ returns-2 c =
     c .bad-in-directory .ensures ∙ ap searchOf (directory-bad t (p .0 .directories-hold) (a .n) (p .1) k)
 
 pub bad-in-node-spec : {M : Type 1} → statement M
-bad-in-node-spec = tie.close (tie.spec node-kind-requires returns bad-in-directory-requires returns-2)
+bad-in-node-spec = tie.close (tie.spec (λ c κs. search needs) returns bad-in-directory-requires returns-2)

@@ -16,11 +16,6 @@ name-requires c κs =
     let n = c .before .before .before .pre .1 (c .if1 .left) in
     (n .whole, n .inside)
 
-name-requires-2 : tie.Need-name-requires-2
-name-requires-2 c κs =
-    let n = c .before .before .before .before .pre .0 in
-    (n .whole, n .inside)
-
 returns-2 : tie.Need-returns-2
 unfolding ascendsFrom
 returns-2 c =
@@ -37,6 +32,5 @@ entry-ascends-spec =
     returns
     (λ c. search needs)
     name-requires
-    name-requires-2
-    (λ c κs. search needs)
+    (λ c κs. search needs) (λ c κs. search needs)
     returns-2)

@@ -17,13 +17,5 @@ returns c =
     let r : rule5 (entriesTree (a .c) (now (a .nodes)) (now (a .entries)) (now (a .text))) ≡ none = rw (c .if1 .taken) in
     sym (ap searchOf r)
 
-sure-records-requires : tie.Need-sure-records-requires
-sure-records-requires c κs =
-    let p = c .before .before .before .before .before .pre .entry-records in
-    (p .whole, p .few)
-
-bad-entry-requires : tie.Need-bad-entry-requires
-bad-entry-requires c κs = (c .before .before .before .before .before .before .pre, c .sure-records .ensures)
-
 pub first-bad-entry-spec : {M : Type 1} → statement M
-first-bad-entry-spec = tie.close (tie.spec returns sure-records-requires bad-entry-requires (λ c. search needs))
+first-bad-entry-spec = tie.close (tie.spec returns (λ c κs. search needs) (λ c κs. search needs) (λ c. search needs))

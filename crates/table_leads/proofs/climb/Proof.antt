@@ -4,7 +4,7 @@ use borrow.Author.Needs.{needs}
 use Prim.Native.Nat.{ℕ, suc, _-_}
 use mathlib.Core.Bool.{true}
 use mathlib.Core.List.{[]}
-use mathlib.Core.Path.{_≡_, refl, sym, ap, subst, _∙_}
+use mathlib.Core.Path.{_≡_, sym, ap, subst, _∙_}
 use native.Mathlib.Omega.{arith}
 use denote.Ref.{now}
 use Rattle.model.specs.Tree.{isDirectory, parentIn}
@@ -24,9 +24,6 @@ Inv-loop nodes n root steps k₀ left₀ k left = ((c : Counts) → DirectoriesH
 
 abbrev μ-loop : tie.MeasureT-loop
 μ-loop nodes n root steps k₀ left₀ k left = left
-
-loop-holds : tie.Need-loop-holds Inv-loop μ-loop
-loop-holds c = (λ d h k. k, refl)
 
 returns : tie.Need-returns Inv-loop μ-loop
 returns c =
@@ -70,7 +67,7 @@ climb-spec =
     (tie.spec
     Inv-loop
     μ-loop
-    loop-holds
+    (λ c. search needs)
     returns
     node-parent-requires
     (λ c. search needs) (λ c. search needs)

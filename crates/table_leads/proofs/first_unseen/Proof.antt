@@ -18,11 +18,6 @@ Inv-loop nodes mounts c links from end left₀ k₀ left k = (k ≤ end)
 abbrev μ-loop : tie.MeasureT-loop
 μ-loop nodes mounts c links from end left₀ k₀ left k = end - k
 
-steps-left-requires : tie.Need-steps-left-requires Inv-loop μ-loop
-steps-left-requires c κs =
-    let p = c .before .before .before .before .before .pre in
-    (p .0, p .1, p .2, omega arith)
-
 returns : tie.Need-returns Inv-loop μ-loop
 returns c =
     let a = c .before .before .before .before .before .before .before .args in
@@ -55,8 +50,7 @@ first-unseen-spec =
     (tie.spec
     Inv-loop
     μ-loop
-    (λ c. search needs) (λ c. search needs) (λ c. search needs)
-    steps-left-requires
+    (λ c. search needs) (λ c. search needs) (λ c. search needs) (λ c κs. search needs)
     returns
     (λ c. search needs) (λ c. search needs)
     loop-again

@@ -1,4 +1,5 @@
 -- `table_leads::link_lead` meets its contract: each return is a case of the rule, by what was read on the way to it. Assumes nothing.
+use borrow.Author.Needs.{needs}
 use Prim.Native.Nat.{ℕ}
 use mathlib.Core.List.{[]}
 use mathlib.Core.Path.{_≡_, sym, ap, ap₂, _∙_}
@@ -10,17 +11,11 @@ use Rattle.table_leads.proofs.LeadLaws.{lead-other, lead-mount, lead-no
 use Rattle.table_leads.proofs.link_lead.Statement.{statement}
 use Rattle.table_leads.proofs.link_lead.Tie as tie
 
-node-kind-requires : tie.Need-node-kind-requires
-node-kind-requires c κs = omega (arith, c .before .pre .0 .whole)
-
 returns : tie.Need-returns
 returns c =
     let a = c .before .before .before .args in
     let t = mountsTree (a .c) (now (a .nodes)) [] in
     lead-other t (a .n) (λ e. c .if1 .taken (c .before .node-kind .ensures .0 ∙ e))
-
-node-first-requires : tie.Need-node-first-requires
-node-first-requires c κs = omega (arith, c .before .before .before .pre .0 .whole)
 
 returns-2 : tie.Need-returns-2
 returns-2 c =
@@ -28,9 +23,6 @@ returns-2 c =
     let t = mountsTree (a .c) (now (a .nodes)) [] in
     let k = sym (c .before .before .before .before .node-kind .ensures .0) ∙ c .before .before .before .if1 .left in
     lead-mount t (a .n) k (omega (arith, c .before .before .node-first .ensures .0))
-
-node-count-requires : tie.Need-node-count-requires
-node-count-requires c κs = omega (arith, c .before .before .before .before .before .before .pre .0 .whole)
 
 returns-3 : tie.Need-returns-3
 returns-3 c =
@@ -43,9 +35,6 @@ returns-3 c =
     let k = sym (node-kind .ensures .0) ∙ if1 .left in
     let mount = node-first .ensures .0 in
     lead-node t (a .n) k (omega (arith, mount)) (omega (arith, node-count .ensures .0))
-
-node-kind-requires-2 : tie.Need-node-kind-requires-2
-node-kind-requires-2 c κs = omega (arith, c .before .before .before .before .before .before .before .before .before .pre .0 .whole)
 
 returns-4 : tie.Need-returns-4
 returns-4 c =
@@ -96,13 +85,13 @@ pub link-lead-spec : {M : Type 1} → statement M
 link-lead-spec =
     tie.close
     (tie.spec
-    node-kind-requires
+    (λ c κs. search needs)
     returns
-    node-first-requires
+    (λ c κs. search needs)
     returns-2
-    node-count-requires
+    (λ c κs. search needs)
     returns-3
-    node-kind-requires-2
+    (λ c κs. search needs)
     returns-4
     returns-5
     returns-6)

@@ -1,32 +1,17 @@
 -- `table_leads::mount_0_lead` meets its contract: each return is a case of the rule. Assumes nothing.
+use borrow.Author.Needs.{needs}
 use mathlib.Core.List.{[]}
 use mathlib.Core.Path.{_∙_, sym}
-use native.Mathlib.Omega.{arith}
 use denote.Ref.{now}
 use Rattle.parts.specs.Parts.{mountsTree}
 use Rattle.table_leads.proofs.LeadLaws.{zero-parent, zero-point, zero-settled}
 use Rattle.table_leads.proofs.mount_0_lead.Statement.{statement}
 use Rattle.table_leads.proofs.mount_0_lead.Tie as tie
 
-mount-parent-requires : tie.Need-mount-parent-requires
-mount-parent-requires c κs =
-    let pre = c .before .pre in
-    omega (arith, pre .some, pre .whole)
-
 returns : tie.Need-returns
 returns c =
     let a = c .before .before .before .args in
     zero-parent (mountsTree (a .c) [] (now (a .mounts))) (λ e. c .if1 .taken (c .before .mount-parent .ensures .0 ∙ e))
-
-mount-point-requires : tie.Need-mount-point-requires
-mount-point-requires c κs =
-    let pre = c .before .before .before .pre in
-    omega (arith, pre .some, pre .whole)
-
-mount-root-requires : tie.Need-mount-root-requires
-mount-root-requires c κs =
-    let pre = c .before .before .before .before .pre in
-    omega (arith, pre .some, pre .whole)
 
 returns-2 : tie.Need-returns-2
 returns-2 c =
@@ -49,9 +34,8 @@ pub mount-0-lead-spec : {M : Type 1} → statement M
 mount-0-lead-spec =
     tie.close
     (tie.spec
-    mount-parent-requires
+    (λ c κs. search needs)
     returns
-    mount-point-requires
-    mount-root-requires
+    (λ c κs. search needs) (λ c κs. search needs)
     returns-2
     returns-3)

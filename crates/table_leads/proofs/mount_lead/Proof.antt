@@ -1,7 +1,6 @@
 -- `table_leads::mount_lead` meets its contract: each return is a case of the rule, by what was read. Assumes nothing.
 use borrow.Author.Needs.{needs}
 use mathlib.Core.Path.{sym, ap, _∙_}
-use native.Mathlib.Omega.{arith}
 use borrow.Author.Tests.{not-true, not-false}
 use denote.Ref.{now}
 use Rattle.model.specs.Tree.{isDirectory}
@@ -11,9 +10,6 @@ use Rattle.table_leads.proofs.LeadLaws.{root-other, zero-set, lead-zero
 use Rattle.table_leads.proofs.mount_lead.Statement.{statement}
 use Rattle.table_leads.proofs.mount_lead.Tie as tie
 
-mount-root-requires : tie.Need-mount-root-requires
-mount-root-requires c κs = omega (arith, c .before .before .pre .1 .whole)
-
 returns : tie.Need-returns
 unfolding isDirectory
 returns c =
@@ -22,9 +18,6 @@ returns c =
     let is-directory = c .before .is-directory in
     let t = mountsTree (a .c) (now (a .nodes)) (now (a .mounts)) in
     root-other t (a .m) (ap (isDirectory t) (sym (mount-root .ensures .0)) ∙ sym (is-directory .ensures) ∙ not-true _ (c .if1 .taken))
-
-mount-zero-requires : tie.Need-mount-zero-requires
-mount-zero-requires c κs = omega (arith, c .before .before .before .before .before .pre .1 .whole)
 
 returns-2 : tie.Need-returns-2
 returns-2 c =
@@ -64,10 +57,9 @@ pub mount-lead-spec : {M : Type 1} → statement M
 mount-lead-spec =
     tie.close
     (tie.spec
-    mount-root-requires
-    (λ c κs. search needs)
+    (λ c κs. search needs) (λ c κs. search needs)
     returns
-    mount-zero-requires
+    (λ c κs. search needs)
     returns-2
     (λ c κs. search needs)
     returns-3

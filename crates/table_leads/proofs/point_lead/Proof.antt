@@ -12,17 +12,11 @@ use Rattle.table_leads.proofs.LeadLaws.{point-late, point-other, point-
 use Rattle.table_leads.proofs.point_lead.Statement.{statement}
 use Rattle.table_leads.proofs.point_lead.Tie as tie
 
-mount-parent-requires : tie.Need-mount-parent-requires
-mount-parent-requires c κs = omega (arith, c .before .before .pre .1 .whole)
-
 returns : tie.Need-returns
 returns c =
     let a = c .before .before .before .before .args in
     let t = mountsTree (a .c) (now (a .nodes)) (now (a .mounts)) in
     point-late t (a .m) (omega (arith, c .before .mount-parent .ensures .0))
-
-mount-point-requires : tie.Need-mount-point-requires
-mount-point-requires c κs = omega (arith, c .before .before .before .before .pre .1 .whole)
 
 returns-2 : tie.Need-returns-2
 unfolding isDirectory
@@ -31,9 +25,6 @@ returns-2 c =
     let t = mountsTree (a .c) (now (a .nodes)) (now (a .mounts)) in
     let d = sym (c .before .is-directory .ensures) ∙ not-true _ (c .if2 .taken) in
     point-other t (a .m) (ap (isDirectory t) (sym (c .before .before .mount-point .ensures .0)) ∙ d)
-
-mount-root-requires : tie.Need-mount-root-requires
-mount-root-requires c κs = omega (arith, c .before .before .before .before .before .before .before .pre .1 .whole)
 
 returns-3 : tie.Need-returns-3
 returns-3 c =
@@ -65,11 +56,10 @@ pub point-lead-spec : {M : Type 1} → statement M
 point-lead-spec =
     tie.close
     (tie.spec
-    mount-parent-requires
-    returns
-    mount-point-requires
     (λ c κs. search needs)
+    returns
+    (λ c κs. search needs) (λ c κs. search needs)
     returns-2
-    mount-root-requires
+    (λ c κs. search needs)
     returns-3
     returns-4)

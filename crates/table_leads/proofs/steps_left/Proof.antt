@@ -13,11 +13,6 @@ use Rattle.model.specs.Tree.{isDirectory}
 use Rattle.table_leads.proofs.steps_left.Statement.{statement}
 use Rattle.table_leads.proofs.steps_left.Tie as tie
 
-lead-of-requires : tie.Need-lead-of-requires
-lead-of-requires c κs =
-    let pre = c .before .before .pre in
-    (pre .0, pre .1, pre .3)
-
 mount-root-requires : tie.Need-mount-root-requires
 mount-root-requires c κs =
     let a = c .before .before .before .before .before .before .args in
@@ -68,8 +63,7 @@ pub steps-left-spec : {M : Type 1} → statement M
 steps-left-spec =
     tie.close
     (tie.spec
-    lead-of-requires
-    (λ c. search needs) (λ c. search needs)
+    (λ c κs. search needs) (λ c. search needs) (λ c. search needs)
     mount-root-requires
     climb-requires
     (λ c. search needs)

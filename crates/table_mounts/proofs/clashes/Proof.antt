@@ -1,15 +1,11 @@
 -- `table_mounts::clashes` meets its contract. Assumes nothing.
 use borrow.Author.Needs.{needs}
 use mathlib.Core.Path.{refl, sym}
-use native.Mathlib.Omega.{arith}
 use denote.Ref.{now}
 use lib.ListN.{length-set}
 use Rattle.table_mounts.proofs.ClashLaws.{alone, noted-set, noted-on}
 use Rattle.table_mounts.proofs.clashes.Statement.{statement}
 use Rattle.table_mounts.proofs.clashes.Tie as tie
-
-slice-read-if1 : tie.Need-slice-read-if1
-slice-read-if1 c = omega (arith, c .before .slot .ensures .1, c .before .before .before .before .pre .1 .room)
 
 returns : tie.Need-returns
 returns c =
@@ -18,9 +14,6 @@ returns c =
     let slot = c .before .before .before .slot in
     let if1 = c .before .if1 in
     (c .shares-point .ensures, noted-on (now (a .mounts)) (a .m) (now (a .points)) (pre .1) (slot .result) (slot .ensures) (if1 .taken), refl)
-
-slice-write-points : tie.Need-slice-write-points
-slice-write-points c = omega (arith, c .before .before .slot .ensures .1, c .before .before .before .before .before .pre .1 .room)
 
 returns-2 : tie.Need-returns-2
 returns-2 c =
@@ -39,10 +32,7 @@ pub clashes-spec : {M : Type 1} → statement M
 clashes-spec =
     tie.close
     (tie.spec
-    (λ c κs. search needs)
-    slice-read-if1
-    (λ c κs. search needs)
+    (λ c κs. search needs) (λ c. search needs) (λ c κs. search needs)
     returns
-    slice-write-points
-    (λ c. search needs)
+    (λ c. search needs) (λ c. search needs)
     returns-2)

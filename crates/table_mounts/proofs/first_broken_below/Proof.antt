@@ -15,11 +15,6 @@ use Rattle.table_mounts.proofs.MountLaws.{zeroth-broken, zeroth-passed}
 use Rattle.table_mounts.proofs.first_broken_below.Statement.{statement}
 use Rattle.table_mounts.proofs.first_broken_below.Tie as tie
 
-mount-lead-requires : tie.Need-mount-lead-requires
-mount-lead-requires c κs =
-    let p = c .before .before .pre in
-    (p .0, p .1, omega (arith, p .3, p .4))
-
 returns : tie.Need-returns
 returns c =
     let a = c .before .before .before .before .before .args in
@@ -93,8 +88,7 @@ pub first-broken-below-spec : {M : Type 1} → statement M
 first-broken-below-spec =
     tie.close
     (tie.spec
-    mount-lead-requires
-    (λ c κs. search needs)
+    (λ c κs. search needs) (λ c κs. search needs)
     returns
     returns-2
     (λ c κs. search needs) (λ c κs. search needs)

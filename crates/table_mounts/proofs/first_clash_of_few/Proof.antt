@@ -1,60 +1,31 @@
 -- `table_mounts::first_clash_of_few` meets its contract. The loop's invariant: the first clash is the first from here on. Assumes nothing.
 use borrow.Author.Needs.{needs}
-use Prim.Native.Nat.{ℕ, _-_, _≤_}
-use mathlib.Core.Bool.{Bool}
-use mathlib.Core.Path.{_≡_, refl, sym, _∙_}
+use Prim.Native.Nat.{_-_}
+use mathlib.Core.Path.{sym, _∙_}
 use native.Mathlib.Omega.{arith}
-use denote.Ref.{now}
-use Rattle.model.specs.Bytes.{find}
 use Rattle.model.specs.TableCheck.{sharesPoint}
-use Rattle.parts.specs.Searches.{foundOr}
-use Rattle.parts.proofs.FoundLaws.{found-here, found-on, found-done}
-use Rattle.table_mounts.specs.Clashes.{uncounted, firstClash}
+use Rattle.parts.proofs.FoundLaws.{first-hit, first-miss, first-none}
+use Rattle.table_mounts.specs.Clashes.{firstClash}
+use Rattle.table_mounts.proofs.ClashLaws.{ClashFrom}
 use Rattle.table_mounts.proofs.first_clash_of_few.Statement.{statement}
 use Rattle.table_mounts.proofs.first_clash_of_few.Tie as tie
 
 abbrev Inv-loop : tie.InvT-loop
-Inv-loop mounts end m₀ m = (1 ≤ m) × (m ≤ end)
-    × (foundOr end (find (λ k. sharesPoint (uncounted mounts) k) 1 (end - 1))
-    ≡ foundOr end (find (λ k. sharesPoint (uncounted mounts) k) m (end - m)))
+Inv-loop mounts end m₀ m = ClashFrom mounts end m
 
 abbrev μ-loop : tie.MeasureT-loop
 μ-loop mounts end m₀ m = end - m
 
-loop-holds : tie.Need-loop-holds Inv-loop μ-loop
-loop-holds c =
-    let a = c .before .args in
-    (omega arith, omega (arith, c .before .pre .some), refl)
-
-shares-point-requires : tie.Need-shares-point-requires Inv-loop μ-loop
-shares-point-requires c κs = omega (arith, c .before .before .before .pre .whole)
-
 returns : tie.Need-returns Inv-loop μ-loop
 unfolding firstClash sharesPoint
-returns c =
-    let a = c .before .before .before .before .before .args in
-    let l = c .before .before .before .loop in
-    let s = now (a .mounts) in
-    let p : ℕ → Bool = λ k. sharesPoint (uncounted s) k in
-    sym (l .inv .2 ∙ found-here p (l .m) (a .c .mounts) (omega arith) (sym (c .before .shares-point .ensures) ∙ c .if1 .taken))
+returns c = first-hit (c .before .before .before .loop .inv) (omega arith) (sym (c .before .shares-point .ensures) ∙ c .if1 .taken)
 
 loop-again : tie.Need-loop-again Inv-loop μ-loop
-loop-again c =
-    let a = c .before .before .before .before .before .args in
-    let l = c .before .before .before .loop in
-    let s = now (a .mounts) in
-    let p : ℕ → Bool = λ k. sharesPoint (uncounted s) k in
-    (omega arith, omega arith, l .inv .2 ∙ found-on p (l .m) (a .c .mounts) (omega arith) (sym (c .before .shares-point .ensures) ∙ c .if1 .left))
+loop-again c = first-miss (c .before .before .before .loop .inv) (omega arith) (sym (c .before .shares-point .ensures) ∙ c .if1 .left)
 
 returns-2 : tie.Need-returns-2 Inv-loop μ-loop
 unfolding firstClash sharesPoint
-returns-2 c =
-    let a = c .before .before .before .args in
-    let l = c .before .loop in
-    let s = now (a .mounts) in
-    let p : ℕ → Bool = λ k. sharesPoint (uncounted s) k in
-    let e : l .m ≡ a .c .mounts = omega arith in
-    e ∙ sym (l .inv .2 ∙ found-done p (l .m) (a .c .mounts) (omega arith))
+returns-2 c = first-none (c .before .loop .inv) (omega arith)
 
 pub first-clash-of-few-spec : {M : Type 1} → statement M
 first-clash-of-few-spec =
@@ -62,8 +33,7 @@ first-clash-of-few-spec =
     (tie.spec
     Inv-loop
     μ-loop
-    loop-holds
-    shares-point-requires
+    (λ c. search needs) (λ c κs. search needs)
     returns
     (λ c. search needs) (λ c. search needs)
     loop-again

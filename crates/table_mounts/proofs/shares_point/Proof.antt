@@ -2,7 +2,7 @@
 use borrow.Author.Needs.{needs}
 use Prim.Native.Nat.{_+_, _-_, _*_, _^_, _≤_, _<_}
 use mathlib.Core.Bool.{_&&_}
-use mathlib.Core.Path.{_≡_, refl, ap, _∙_, sym}
+use mathlib.Core.Path.{_≡_, ap, _∙_, sym}
 use native.Mathlib.Omega.{arith}
 use lib.Dec.{eqb}
 use Rattle.model.specs.Bytes.{find, isSome}
@@ -23,12 +23,7 @@ abbrev μ-loop : tie.MeasureT-loop
 
 loop-holds : tie.Need-loop-holds Inv-loop μ-loop
 unfolding sharesPoint
-loop-holds c =
-    let packed = c .packed-point .ensures in
-    (omega arith, packed .0, packed .1, refl)
-
-packed-point-requires-2 : tie.Need-packed-point-requires-2 Inv-loop μ-loop
-packed-point-requires-2 c κs = omega (arith, c .before .before .before .before .pre)
+loop-holds c = search needs
 
 returns : tie.Need-returns Inv-loop μ-loop
 returns c =
@@ -63,7 +58,7 @@ shares-point-spec =
     μ-loop
     (λ c κs. search needs)
     loop-holds
-    packed-point-requires-2
+    (λ c κs. search needs)
     returns
     (λ c. search needs) (λ c. search needs)
     loop-again

@@ -10,12 +10,6 @@ use Rattle.table_mounts.specs.Clashes.{slotOf}
 use Rattle.table_mounts.proofs.slot.Statement.{statement}
 use Rattle.table_mounts.proofs.slot.Tie as tie
 
-mul-result : tie.Need-mul-result
-mul-result c = omega (arith, c .packed-point .ensures .2)
-
-add-result : tie.Need-add-result
-add-result c = omega (arith, c .packed-point .ensures .2)
-
 returns : tie.Need-returns
 unfolding slotOf
 returns c =
@@ -31,4 +25,4 @@ returns c =
     (ap (λ (k : ℕ). (k + 4 * r) % 1024) above ∙ rest, omega arith)
 
 pub slot-spec : {M : Type 1} → statement M
-slot-spec = tie.close (tie.spec (λ c κs. search needs) mul-result add-result returns)
+slot-spec = tie.close (tie.spec (λ c κs. search needs) (λ c. search needs) (λ c. search needs) returns)

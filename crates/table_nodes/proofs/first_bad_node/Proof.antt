@@ -25,22 +25,12 @@ Inv-loop nodes text c sure end sum₀ n₀ sum n =
 abbrev μ-loop : tie.MeasureT-loop
 μ-loop nodes text c sure end sum₀ n₀ sum n = end - n
 
-sure-records-requires : tie.Need-sure-records-requires Inv-loop μ-loop
-sure-records-requires c κs = (c .before .before .pre .whole, c .before .before .pre .few)
-
 loop-holds : tie.Need-loop-holds Inv-loop μ-loop
 unfolding firstFailing countsBefore sumBelow
 loop-holds c =
     let args = c .before .before .before .args in
     let e : args .c .nodes - 0 ≡ args .c .nodes = omega arith in
     (refl, omega arith, refl, omega arith, rw e)
-
-node-holds-requires : tie.Need-node-holds-requires Inv-loop μ-loop
-node-holds-requires c κs =
-    let pre = c .before .before .before .before .before .before .pre in
-    let loop = c .before .before .loop in
-    let sure-records = c .before .before .before .sure-records in
-    (pre, omega arith, c .node-kind .ensures .0, loop .inv .2, sure-records .ensures)
 
 returns : tie.Need-returns Inv-loop μ-loop
 unfolding rule4
@@ -53,12 +43,6 @@ returns c =
     let f = find-here (λ k. not (nodeHolds t k)) (l .n) _ (test .taken) (ap not (sym (node-holds .ensures)) ∙ c .if1 .taken) in
     let r : rule4 t ≡ some (l .n) = rw (l .inv .4 ∙ f) in
     sym (ap searchOf r)
-
-directory-count-requires : tie.Need-directory-count-requires Inv-loop μ-loop
-directory-count-requires c κs =
-    let pre = c .before .before .before .before .before .before .before .before .pre in
-    let node-kind = c .before .before .node-kind in
-    (pre, omega arith, node-kind .ensures .0)
 
 loop-again : tie.Need-loop-again Inv-loop μ-loop
 unfolding countsBefore sumBelow directoryCount
@@ -102,13 +86,11 @@ first-bad-node-spec =
     (tie.spec
     Inv-loop
     μ-loop
-    sure-records-requires
-    loop-holds
     (λ c κs. search needs)
-    node-holds-requires
+    loop-holds
+    (λ c κs. search needs) (λ c κs. search needs)
     returns
-    directory-count-requires
-    (λ c. search needs) (λ c. search needs) (λ c. search needs)
+    (λ c κs. search needs) (λ c. search needs) (λ c. search needs) (λ c. search needs)
     loop-again
     returns-2
     returns-3)

@@ -10,10 +10,7 @@ use Rattle.table_nodes.proofs.node_holds.Tie as tie
 
 directory-holds-requires : tie.Need-directory-holds-requires
 unfolding countsBefore directoryCount
-directory-holds-requires c κs = let p = c .before .before .before .pre in (p .0, p .1, p .3)
-
-symlink-holds-requires : tie.Need-symlink-holds-requires
-symlink-holds-requires c κs = let p = c .before .before .before .pre in (p .0, p .1, sym (p .2) ∙ c .match .keys3, p .4)
+directory-holds-requires c κs = search needs
 
 returns : tie.Need-returns
 unfolding nodeHolds directoryHolds isDirectory countsBefore directoryCount
@@ -46,9 +43,7 @@ node-holds-spec =
     tie.close
     (tie.spec
     directory-holds-requires
-    (λ c κs. search needs)
-    symlink-holds-requires
-    (λ c κs. search needs)
+    (λ c κs. search needs) (λ c κs. search needs) (λ c κs. search needs)
     returns
     returns-2
     returns-3

@@ -1,7 +1,7 @@
 -- `table_texts::longer` meets its contract. The loop's invariant: the sum is that of the parts before. Assumes nothing.
 use borrow.Author.Needs.{needs}
 use Prim.Native.Nat.{_-_, _*_, _≤_}
-use mathlib.Core.Path.{_≡_, refl, sym}
+use mathlib.Core.Path.{_≡_, sym}
 use native.Mathlib.Omega.{arith}
 use denote.Ref.{now}
 use Rattle.model.specs.TableCheck.{sumBelow}
@@ -19,12 +19,12 @@ abbrev μ-loop : tie.MeasureT-loop
 
 loop-holds : tie.Need-loop-holds Inv-loop μ-loop
 unfolding sumBelow
-loop-holds c = (omega arith, omega arith, omega arith, refl)
+loop-holds c = search needs
 
 part-length-requires : tie.Need-part-length-requires Inv-loop μ-loop
 part-length-requires c κs =
-    let a = c .before .before .before .args in
-    record-fits (a .names) (c .before .loop .k) (a .count) _ (omega arith) (c .before .before .before .pre .0)
+    let d = c .before .before .before in
+    record-fits (d .args .names) (c .before .loop .k) (d .args .count) _ (d .pre .0) (omega arith)
 
 returns : tie.Need-returns Inv-loop μ-loop
 returns c =

@@ -15,9 +15,6 @@ returns c =
     let a = c .before .before .before .before .before .before .before .args in
     sym (outside (a .names) (now (a .records)) (now (a .text)) (a .k) (omega arith))
 
-next-barred-requires : tie.Need-next-barred-requires
-next-barred-requires c κs = (c .before .before .before .before .before .before .before .pre .0, omega arith)
-
 returns-2 : tie.Need-returns-2
 returns-2 c =
     let a = c .before .before .before .before .before .before .before .before .args in
@@ -35,5 +32,5 @@ marked-barred-spec =
     (tie.spec
     (λ c κs. search needs) (λ c κs. search needs) (λ c. search needs)
     returns
-    next-barred-requires
+    (λ c κs. search needs)
     returns-2)

@@ -1,12 +1,8 @@
 -- `table_texts::sure_records` meets its contract. Assumes nothing.
 use borrow.Author.Needs.{needs}
-use Prim.Native.Nat.{_*_, _≤_}
-use mathlib.Core.Bool.{Bool}
-use mathlib.Core.List.{List}
-use mathlib.Core.Path.{sym, ap, ap₂, _∙_, subst}
-use lib.ListN.{length}
-use denote.Ref.{now}
-use Rattle.table_texts.specs.Barred.{recordSize, firstBarred, sureRecords}
+use mathlib.Core.Path.{sym, _∙_}
+use Rattle.table_texts.specs.Barred.{sureRecords}
+use Rattle.table_texts.proofs.RecordLaws.{kind-fits, sure-first}
 use Rattle.table_texts.proofs.sure_records.Statement.{statement}
 use Rattle.table_texts.proofs.sure_records.Tie as tie
 
@@ -16,35 +12,25 @@ returns c = rw (sym (c .before .few-records .ensures) ∙ c .if1 .taken)
 
 first-barred-requires : tie.Need-first-barred-requires
 first-barred-requires c κs =
-    let a = c .before .before .before .before .before .before .before .args in
     let p = c .before .before .before .before .before .before .before .pre in
-    let room = subst (λ (b : Bool). recordSize b * a .count ≤ length (now (a .records))) (c .before .before .if2 .taken) (p .0) in
-    rw (c .before .lend .ensures) (room, p .1)
+    rw (c .before .lend .ensures) (kind-fits (c .before .before .if2 .taken) _ _ (p .0), p .1)
 
 returns-2 : tie.Need-returns-2
-unfolding sureRecords
 returns-2 c =
-    let a = c .before .before .before .before .before .before .before .before .args in
-    let more = sym (c .before .before .before .before .before .few-records .ensures) ∙ c .before .before .before .before .if1 .left in
-    let lent = ap₂ (λ (r t : List _). firstBarred _ r t (a .count)) (c .before .before .lend .ensures) (c .before .lend2 .ensures) in
-    let of-names = ap (λ (b : Bool). firstBarred b (now (a .records)) (now (a .text)) (a .count)) (sym (c .before .before .before .if2 .taken)) in
-    c .first-barred .ensures ∙ lent ∙ of-names ∙ sym (rw more)
+    let d = c .before .before .before in
+    let few = sym (d .before .before .few-records .ensures) ∙ d .before .if1 .left in
+    sure-first _ few (d .if2 .taken) (c .before .before .lend .ensures) (c .before .lend2 .ensures) (c .first-barred .ensures)
 
 first-barred-requires-2 : tie.Need-first-barred-requires-2
 first-barred-requires-2 c κs =
-    let a = c .before .before .before .before .before .before .before .args in
     let p = c .before .before .before .before .before .before .before .pre in
-    let room = subst (λ (b : Bool). recordSize b * a .count ≤ length (now (a .records))) (c .before .before .if2 .left) (p .0) in
-    rw (c .before .lend3 .ensures) (room, p .1)
+    rw (c .before .lend3 .ensures) (kind-fits (c .before .before .if2 .left) _ _ (p .0), p .1)
 
 returns-3 : tie.Need-returns-3
-unfolding sureRecords
 returns-3 c =
-    let a = c .before .before .before .before .before .before .before .before .args in
-    let more = sym (c .before .before .before .before .before .few-records .ensures) ∙ c .before .before .before .before .if1 .left in
-    let lent = ap₂ (λ (r t : List _). firstBarred _ r t (a .count)) (c .before .before .lend3 .ensures) (c .before .lend4 .ensures) in
-    let of-bodies = ap (λ (b : Bool). firstBarred b (now (a .records)) (now (a .text)) (a .count)) (sym (c .before .before .before .if2 .left)) in
-    c .first-barred2 .ensures ∙ lent ∙ of-bodies ∙ sym (rw more)
+    let d = c .before .before .before in
+    let few = sym (d .before .before .few-records .ensures) ∙ d .before .if1 .left in
+    sure-first _ few (d .if2 .left) (c .before .before .lend3 .ensures) (c .before .lend4 .ensures) (c .first-barred2 .ensures)
 
 pub sure-records-spec : {M : Type 1} → statement M
 sure-records-spec =

@@ -1,7 +1,7 @@
 -- `table_under::note_roots` meets its contract. The loop's invariant: the roots of the mounts passed are noted. Assumes nothing.
 use borrow.Author.Needs.{needs}
 use Prim.Native.Nat.{ℕ, _-_, _≤_}
-use mathlib.Core.Path.{_≡_, refl, subst, _∙_}
+use mathlib.Core.Path.{_≡_, subst}
 use denote.Ref.{now}
 use lib.ListN.{length}
 use native.Mathlib.Omega.{arith}
@@ -16,18 +16,6 @@ Inv-loop mounts c near₀ end m₀ near m = (m ≤ end) × Rooted (c .nodes) (mo
 abbrev μ-loop : tie.MeasureT-loop
 μ-loop mounts c near₀ end m₀ near m = end - m
 
-loop-holds : tie.Need-loop-holds Inv-loop μ-loop
-loop-holds c = (omega arith, c .before .before .pre .1, refl)
-
-note-root-requires : tie.Need-note-root-requires Inv-loop μ-loop
-note-root-requires c κs = (c .before .before .before .before .before .pre .0, omega arith, c .before .before .loop .inv .1)
-
-loop-again : tie.Need-loop-again Inv-loop μ-loop
-loop-again c =
-    let l = c .before .before .before .before .before .loop in
-    let note-root = c .before .before .note-root in
-    (omega arith, note-root .ensures, note-root .kept .1 .1 .0 ∙ l .inv .2)
-
 returns : tie.Need-returns Inv-loop μ-loop
 returns c =
     let a = c .before .before .before .before .args in
@@ -40,9 +28,6 @@ note-roots-spec =
     (tie.spec
     Inv-loop
     μ-loop
-    loop-holds
-    note-root-requires
-    (λ c. search needs) (λ c. search needs)
-    loop-again
+    (λ c. search needs) (λ c κs. search needs) (λ c. search needs) (λ c. search needs) (λ c. search needs)
     (λ c. search needs)
     returns)

@@ -1,7 +1,7 @@
 -- `table_under::pass_down` meets its contract. The loop's invariant: what the lists have is what passing the nodes so far leaves. Assumes nothing.
 use borrow.Author.Needs.{needs}
 use Prim.Native.Nat.{ℕ, _-_, _≤_}
-use mathlib.Core.Path.{_≡_, refl, sym, ap, subst, _∙_}
+use mathlib.Core.Path.{_≡_, sym, ap, subst, _∙_}
 use native.Mathlib.Omega.{arith}
 use denote.Ref.{now}
 use lib.ListN.{length}
@@ -20,13 +20,7 @@ abbrev μ-loop : tie.MeasureT-loop
 
 loop-holds : tie.Need-loop-holds Inv-loop μ-loop
 unfolding passDown
-loop-holds c = (omega arith, c .before .before .before .pre .2, refl, refl, refl)
-
-pass-to-requires : tie.Need-pass-to-requires Inv-loop μ-loop
-pass-to-requires c κs =
-    let p = c .before .before .before .before .before .before .before .pre in
-    let l = c .before .before .before .loop in
-    (omega (arith, p .0 .whole), omega (arith, p .1, l .inv .3), l .inv .1)
+loop-holds c = search needs
 
 loop-again : tie.Need-loop-again Inv-loop μ-loop
 loop-again c =
@@ -55,8 +49,7 @@ pass-down-spec =
     Inv-loop
     μ-loop
     loop-holds
-    pass-to-requires
-    (λ c. search needs) (λ c. search needs)
+    (λ c κs. search needs) (λ c. search needs) (λ c. search needs)
     loop-again
     (λ c. search needs) (λ c. search needs)
     returns)

@@ -4,7 +4,6 @@ use borrow.Author.Needs.{needs}
 use Prim.Native.Nat.{_-_}
 use mathlib.Core.Path.{_≡_, _∙_, sym}
 use lib.ListN.{length}
-use denote.Ref.{now}
 use Rattle.text.specs.Positions.{componentEnd}
 use Rattle.text.proofs.Scans.{end-here, end-on, end-done}
 use Rattle.text.proofs.component_end.Statement.{statement}
@@ -17,23 +16,13 @@ abbrev μ-loop : tie.MeasureT-loop
 μ-loop s at end₀ end = length s - end
 
 returns : tie.Need-returns Inv-loop μ-loop
-returns c =
-    let args = c .before .before .before .before .args in
-    let loop = c .before .before .before .loop in
-    let loop-test = c .before .before .loop-test in
-    sym (loop .inv ∙ end-here (now (args .s)) (loop .end) (loop-test .taken) (c .if1 .taken))
+returns c = sym (c .before .before .before .loop .inv ∙ end-here _ _ (c .before .before .loop-test .taken) (c .if1 .taken))
 
 loop-again : tie.Need-loop-again Inv-loop μ-loop
-loop-again c =
-    let args = c .before .before .before .before .args in
-    let loop = c .before .before .before .loop in
-    let loop-test = c .before .before .loop-test in
-    loop .inv ∙ end-on (now (args .s)) (loop .end) (loop-test .taken) (c .if1 .left)
+loop-again c = c .before .before .before .loop .inv ∙ end-on _ _ (c .before .before .loop-test .taken) (c .if1 .left)
 
 returns-2 : tie.Need-returns-2 Inv-loop μ-loop
-returns-2 c =
-    let loop = c .before .loop in
-    sym (loop .inv ∙ end-done (now (c .before .before .args .s)) (loop .end) (c .loop-test .left))
+returns-2 c = sym (c .before .loop .inv ∙ end-done _ _ (c .loop-test .left))
 
 pub component-end-spec : {M : Type 1} → statement M
 component-end-spec =

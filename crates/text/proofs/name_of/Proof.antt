@@ -7,11 +7,6 @@ use Rattle.text.specs.Texts.{between}
 use Rattle.text.proofs.name_of.Statement.{statement}
 use Rattle.text.proofs.name_of.Tie as tie
 
-text-of-requires : tie.Need-text-of-requires
-text-of-requires c κs =
-    let pre = c .before .before .pre in
-    (pre .0, pre .1)
-
 part-result-end : tie.Need-part-result-end
 part-result-end c = omega (arith, ap length (c .text-of .ensures), c .before .before .before .pre .3)
 
@@ -22,4 +17,9 @@ returns c =
     ap (λ s. between s (args .at) (args .end)) (text-of .ensures)
 
 pub name-of-spec : {M : Type 1} → statement M
-name-of-spec = tie.close (tie.spec text-of-requires (λ c. search needs) (λ c. search needs) part-result-end returns)
+name-of-spec =
+    tie.close
+    (tie.spec
+    (λ c κs. search needs) (λ c. search needs) (λ c. search needs)
+    part-result-end
+    returns)

@@ -3,7 +3,6 @@ use borrow.Author.Needs.{needs}
 use Prim.Native.Nat.{_-_}
 use mathlib.Core.Path.{_≡_, _∙_, sym}
 use lib.ListN.{length}
-use denote.Ref.{now}
 use Rattle.text.specs.Positions.{pastSlashes}
 use Rattle.text.proofs.Scans.{past-here, past-on, past-done}
 use Rattle.text.proofs.skip_slashes.Statement.{statement}
@@ -16,23 +15,13 @@ abbrev μ-loop : tie.MeasureT-loop
 μ-loop s at next₀ next = length s - next
 
 returns : tie.Need-returns Inv-loop μ-loop
-returns c =
-    let args = c .before .before .before .before .args in
-    let loop = c .before .before .before .loop in
-    let loop-test = c .before .before .loop-test in
-    sym (loop .inv ∙ past-here (now (args .s)) (loop .next) (loop-test .taken) (c .if1 .taken))
+returns c = sym (c .before .before .before .loop .inv ∙ past-here _ _ (c .before .before .loop-test .taken) (c .if1 .taken))
 
 loop-again : tie.Need-loop-again Inv-loop μ-loop
-loop-again c =
-    let args = c .before .before .before .before .args in
-    let loop = c .before .before .before .loop in
-    let loop-test = c .before .before .loop-test in
-    loop .inv ∙ past-on (now (args .s)) (loop .next) (loop-test .taken) (c .if1 .left)
+loop-again c = c .before .before .before .loop .inv ∙ past-on _ _ (c .before .before .loop-test .taken) (c .if1 .left)
 
 returns-2 : tie.Need-returns-2 Inv-loop μ-loop
-returns-2 c =
-    let loop = c .before .loop in
-    sym (loop .inv ∙ past-done (now (c .before .before .args .s)) (loop .next) (c .loop-test .left))
+returns-2 c = sym (c .before .loop .inv ∙ past-done _ _ (c .loop-test .left))
 
 pub skip-slashes-spec : {M : Type 1} → statement M
 skip-slashes-spec =

@@ -6,29 +6,26 @@ use native.Mathlib.Omega.{arith}
 use denote.Ref.{now}
 use Rattle.model.specs.Bytes.{find, sameBytes}
 use Rattle.model.specs.Tree.{treeOf, lookup}
-use Rattle.laws.proofs.Acceptance.{directory-below, accepted-sound, entries-inside, name-facts}
+use Rattle.laws.proofs.Acceptance.{accepted-below, accepted-sound, entries-inside, name-facts}
 use Rattle.laws.proofs.ByteLaws.{find-here, find-on, find-done}
 use Rattle.parts.specs.Searches.{searchOf}
 use Rattle.tree.proofs.find_entry.Statement.{statement}
 use Rattle.tree.proofs.find_entry.Tie as tie
 
 abbrev Inv-loop : tie.InvT-loop
-Inv-loop image c n wanted e₀ end e = (end ≡ treeOf image .first n + treeOf image .count n) × (treeOf image .first n ≤ e) × (e ≤ end) × (lookup (treeOf image) n wanted ≡ find (λ k. sameBytes (treeOf image .name k) wanted) e (end - e))
+Inv-loop image c n wanted e₀ end e =
+    let t = treeOf image in
+    (end ≡ t .first n + t .count n) × (t .first n ≤ e) × (e ≤ end)
+    × (lookup t n wanted ≡ find (λ k. sameBytes (t .name k) wanted) e (end - e))
 
 abbrev μ-loop : tie.MeasureT-loop
 μ-loop image c n wanted e₀ end e = end - e
 
 node-first-requires : tie.Need-node-first-requires Inv-loop μ-loop
-node-first-requires c κs =
-    let pre = c .before .before .pre in
-    let args = c .before .before .args in
-    (pre .0 .sized, directory-below (treeOf (now (args .image))) (accepted-sound (now (args .image)) (pre .1) .nodes-hold .directories-hold) (args .n) (pre .2))
+node-first-requires c κs = let d = c .before .before in (d .pre .0 .sized, accepted-below _ _ (d .pre .1) (d .pre .2))
 
 node-count-requires : tie.Need-node-count-requires Inv-loop μ-loop
-node-count-requires c κs =
-    let pre = c .before .before .before .pre in
-    let args = c .before .before .before .args in
-    (pre .0 .sized, directory-below (treeOf (now (args .image))) (accepted-sound (now (args .image)) (pre .1) .nodes-hold .directories-hold) (args .n) (pre .2))
+node-count-requires c κs = let d = c .before .before .before in (d .pre .0 .sized, accepted-below _ _ (d .pre .1) (d .pre .2))
 
 loop-holds : tie.Need-loop-holds Inv-loop μ-loop
 unfolding lookup
@@ -53,29 +50,19 @@ is-named-requires c κs =
 
 returns : tie.Need-returns Inv-loop μ-loop
 returns c =
-    let args = c .before .before .before .before .before .before .before .before .args in
     let loop = c .before .before .before .loop in
-    let test = c .before .before .loop-test in
-    let is-named = c .before .is-named in
-    let s = now (args .image) in
-    let w = now (args .wanted) in
-    sym (ap searchOf (loop .inv .3 ∙ find-here (λ k. sameBytes (treeOf s .name k) w) (loop .e) _ (test .taken) (sym (is-named .ensures) ∙ c .if1 .taken)))
+    sym (ap searchOf (loop .inv .3 ∙ find-here _ (loop .e) _ (c .before .before .loop-test .taken) (sym (c .before .is-named .ensures) ∙ c .if1 .taken)))
 
 loop-again : tie.Need-loop-again Inv-loop μ-loop
 loop-again c =
-    let args = c .before .before .before .before .before .before .before .before .args in
     let loop = c .before .before .before .loop in
-    let test = c .before .before .loop-test in
-    let is-named = c .before .is-named in
-    let s = now (args .image) in
-    let w = now (args .wanted) in
-    (loop .inv .0, omega arith, omega arith, loop .inv .3 ∙ find-on (λ k. sameBytes (treeOf s .name k) w) (loop .e) _ (test .taken) (sym (is-named .ensures) ∙ c .if1 .left))
+    let other = sym (c .before .is-named .ensures) ∙ c .if1 .left in
+    (loop .inv .0, omega arith, omega arith, loop .inv .3 ∙ find-on _ (loop .e) _ (c .before .before .loop-test .taken) other)
 
 returns-2 : tie.Need-returns-2 Inv-loop μ-loop
 returns-2 c =
     let loop = c .before .loop in
-    let args = c .before .before .before .before .before .before .args in
-    sym (ap searchOf (loop .inv .3 ∙ find-done (λ k. sameBytes (treeOf (now (args .image)) .name k) (now (args .wanted))) (loop .e) _ (c .loop-test .left)))
+    sym (ap searchOf (loop .inv .3 ∙ find-done _ (loop .e) _ (c .loop-test .left)))
 
 pub find-entry-spec : {M : Type 1} → statement M
 find-entry-spec =

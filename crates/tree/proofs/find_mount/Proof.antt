@@ -17,101 +17,63 @@ use Rattle.tree.proofs.find_mount.Statement.{statement}
 use Rattle.tree.proofs.find_mount.Tie as tie
 
 abbrev Inv-loop : tie.InvT-loop
-Inv-loop image c mount node end m₀ wanted m = (end ≡ treeOf image .mounts) × (m ≤ end) × (mountOn (treeOf image) (placeAt mount node) ≡ find (onPlace (treeOf image) mount node) m (end - m))
+Inv-loop image c mount node end m₀ wanted m =
+    let t = treeOf image in
+    (end ≡ t .mounts) × (m ≤ end) × (mountOn t (placeAt mount node) ≡ find (onPlace t mount node) m (end - m))
 
 abbrev μ-loop : tie.MeasureT-loop
 μ-loop image c mount node end m₀ wanted m = end - m
 
-add-m : tie.Need-add-m Inv-loop μ-loop
-add-m c = omega (arith, c .before .pre .0 .sized .few-mounts)
-
 returns : tie.Need-returns Inv-loop μ-loop
 returns c =
-    let args = c .before .before .args in
-    let pre = c .before .before .pre in
-    let t = treeOf (now (args .image)) in
-    let p = args .mount in
-    let n = args .node in
-    let test = onPlace t p n in
-    let mounts = accepted-sound (now (args .image)) (pre .1) .mounts-hold in
-    sym (ap searchOf (mount-on-above t mounts p n (pre .2) ∙ find-done test (p + 1) (t .mounts) (omega (arith, pre .0 .mounts-are))))
-
-mount-root-requires : tie.Need-mount-root-requires Inv-loop μ-loop
-mount-root-requires c κs =
-    let pre = c .before .before .pre in
-    (pre .0, pre .2)
+    let d = c .before .before in
+    let a = d .args in
+    let t = treeOf (now (a .image)) in
+    let mounts = accepted-sound (now (a .image)) (d .pre .1) .mounts-hold in
+    let none-above = find-done (onPlace t (a .mount) (a .node)) (a .mount + 1) (t .mounts) (omega (arith, d .pre .0 .mounts-are)) in
+    sym (ap searchOf (mount-on-above t mounts (a .mount) (a .node) (d .pre .2) ∙ none-above))
 
 returns-2 : tie.Need-returns-2 Inv-loop μ-loop
 returns-2 c =
-    let args = c .before .before .before .before .args in
-    let pre = c .before .before .before .before .pre in
-    let t = treeOf (now (args .image)) in
-    let p = args .mount in
-    let n = args .node in
-    let mounts = accepted-sound (now (args .image)) (pre .1) .mounts-hold in
-    sym (ap searchOf (mount-on-root t mounts p n (pre .2) (c .if2 .taken ∙ c .before .mount-root .ensures .0)))
-
-mul-wanted : tie.Need-mul-wanted Inv-loop μ-loop
-mul-wanted c = omega (arith, c .before .before .before .before .pre .0 .sized .few-nodes)
-
-add-wanted : tie.Need-add-wanted Inv-loop μ-loop
-add-wanted c =
-    let pre = c .before .before .before .before .pre in
-    omega (arith, pre .0 .sized .few-nodes, pre .0 .sized .few-mounts)
+    let d = c .before .before .before .before in
+    let a = d .args in
+    let mounts = accepted-sound (now (a .image)) (d .pre .1) .mounts-hold in
+    sym (ap searchOf (mount-on-root _ mounts (a .mount) (a .node) (d .pre .2) (c .if2 .taken ∙ c .before .mount-root .ensures .0)))
 
 loop-holds : tie.Need-loop-holds Inv-loop μ-loop
 loop-holds c =
-    let args = c .before .before .before .before .args in
-    let pre = c .before .before .before .before .pre in
-    let t = treeOf (now (args .image)) in
-    let p = args .mount in
-    let n = args .node in
-    let test = onPlace t p n in
-    let mounts = accepted-sound (now (args .image)) (pre .1) .mounts-hold in
-    (pre .0 .mounts-are, omega (arith, pre .0 .mounts-are), mount-on-above t mounts p n (pre .2) ∙ ap (λ (k : ℕ). find test (p + 1) (k - (p + 1))) (sym (pre .0 .mounts-are)))
-
-packed-point-requires : tie.Need-packed-point-requires Inv-loop μ-loop
-packed-point-requires c κs = (c .before .before .before .before .before .before .pre .0, omega (arith, c .before .loop .inv .0))
+    let d = c .before .before .before .before in
+    let a = d .args in
+    let p = d .pre in
+    let t = treeOf (now (a .image)) in
+    let from-above = mount-on-above t (accepted-sound (now (a .image)) (p .1) .mounts-hold) (a .mount) (a .node) (p .2) in
+    let ends = ap (λ (k : ℕ). find (onPlace t (a .mount) (a .node)) (a .mount + 1) (k - (a .mount + 1))) (sym (p .0 .mounts-are)) in
+    (p .0 .mounts-are, omega (arith, p .0 .mounts-are), from-above ∙ ends)
 
 returns-3 : tie.Need-returns-3 Inv-loop μ-loop
 returns-3 c =
-    let args = c .before .before .before .before .before .before .before .before .args in
-    let loop = c .before .before .before .loop in
-    let pre = c .before .before .before .before .before .before .before .before .pre in
-    let test2 = c .before .before .loop-test in
-    let packed-point = c .before .packed-point in
-    let t = treeOf (now (args .image)) in
-    let p = args .mount in
-    let n = args .node in
-    let test = onPlace t p n in
-    let m = loop .m in
-    let cut : m ≡ m % 65536 = omega (arith, loop .inv .0, pre .0 .sized .few-mounts) in
-    sym (ap searchOf (loop .inv .2 ∙ find-here test m _ (test2 .taken) (packed-same (t .mountParent m) (t .mountPoint m) p n (packed-point .ensures .1) (omega (arith, pre .0 .sized .few-mounts)) (sym (packed-point .ensures .0) ∙ c .if3 .taken)) ∙ ap some cut))
-
-add-m-2 : tie.Need-add-m-2 Inv-loop μ-loop
-add-m-2 c =
-    let loop = c .before .before .before .loop in
-    let pre = c .before .before .before .before .before .before .before .before .pre in
-    omega (arith, loop .inv .0, pre .0 .sized .few-mounts)
+    let l = c .before .before .before .loop in
+    let a = c .before .before .before .before .before .before .before .before .args in
+    let few = c .before .before .before .before .before .before .before .before .pre .0 .sized .few-mounts in
+    let t = treeOf (now (a .image)) in
+    let point = c .before .packed-point .ensures in
+    let same = packed-same (t .mountParent (l .m)) (t .mountPoint (l .m)) (a .mount) (a .node) (point .1) (omega (arith, few)) (sym (point .0) ∙ c .if3 .taken) in
+    let cut : l .m ≡ l .m % 65536 = omega (arith, l .inv .0, few) in
+    sym (ap searchOf (l .inv .2 ∙ find-here _ (l .m) _ (c .before .before .loop-test .taken) same ∙ ap some cut))
 
 loop-again : tie.Need-loop-again Inv-loop μ-loop
 loop-again c =
-    let args = c .before .before .before .before .before .before .before .before .args in
-    let loop = c .before .before .before .loop in
-    let test2 = c .before .before .loop-test in
-    let packed-point = c .before .packed-point in
-    let t = treeOf (now (args .image)) in
-    let p = args .mount in
-    let n = args .node in
-    let test = onPlace t p n in
-    let m = loop .m in
-    (loop .inv .0, omega arith, loop .inv .2 ∙ find-on test m _ (test2 .taken) (packed-other (t .mountParent m) (t .mountPoint m) p n (λ e. c .if3 .left (packed-point .ensures .0 ∙ e))))
+    let l = c .before .before .before .loop in
+    let a = c .before .before .before .before .before .before .before .before .args in
+    let t = treeOf (now (a .image)) in
+    let point = c .before .packed-point .ensures .0 in
+    let other = packed-other (t .mountParent (l .m)) (t .mountPoint (l .m)) (a .mount) (a .node) (λ e. c .if3 .left (point ∙ e)) in
+    (l .inv .0, omega arith, l .inv .2 ∙ find-on _ (l .m) _ (c .before .before .loop-test .taken) other)
 
 returns-4 : tie.Need-returns-4 Inv-loop μ-loop
 returns-4 c =
-    let loop = c .before .loop in
-    let args = c .before .before .before .before .before .before .args in
-    sym (ap searchOf (loop .inv .2 ∙ find-done (onPlace (treeOf (now (args .image))) (args .mount) (args .node)) (loop .m) _ (c .loop-test .left)))
+    let l = c .before .loop in
+    sym (ap searchOf (l .inv .2 ∙ find-done _ (l .m) _ (c .loop-test .left)))
 
 pub find-mount-spec : {M : Type 1} → statement M
 find-mount-spec =
@@ -119,16 +81,14 @@ find-mount-spec =
     (tie.spec
     Inv-loop
     μ-loop
-    add-m
-    returns
-    mount-root-requires
-    returns-2
-    mul-wanted
-    add-wanted
-    loop-holds
-    packed-point-requires
-    returns-3
-    add-m-2
     (λ c. search needs)
+    returns
+    (λ c κs. search needs)
+    returns-2
+    (λ c. search needs) (λ c. search needs)
+    loop-holds
+    (λ c κs. search needs)
+    returns-3
+    (λ c. search needs) (λ c. search needs)
     loop-again
     returns-4)

@@ -1,8 +1,9 @@
 -- `tree::is_under` meets its contract. The loop's invariant: the node came to is a directory, and meets the root if the first one does.
 -- Assumes nothing.
+use borrow.Author.Needs.{needs}
 use Prim.Native.Nat.{ℕ}
 use mathlib.Core.Bool.{true}
-use mathlib.Core.Path.{_≡_, refl, ap, _∙_, sym, subst}
+use mathlib.Core.Path.{_≡_, ap, _∙_, sym, subst}
 use native.Mathlib.Omega.{arith}
 use borrow.Author.Tests.{ne-eqb}
 use denote.Ref.{now}
@@ -17,9 +18,6 @@ Inv-loop image n root k₀ k = (isDirectory (treeOf image) k ≡ true) × (under
 
 abbrev μ-loop : tie.MeasureT-loop
 μ-loop image n root k₀ k = k
-
-loop-holds : tie.Need-loop-holds Inv-loop μ-loop
-loop-holds c = (c .before .pre .2, refl)
 
 node-parent-requires : tie.Need-node-parent-requires Inv-loop μ-loop
 node-parent-requires c κs =
@@ -71,7 +69,7 @@ is-under-spec =
     (tie.spec
     Inv-loop
     μ-loop
-    loop-holds
+    (λ c. search needs)
     node-parent-requires
     returns
     loop-less

@@ -1,13 +1,12 @@
 -- `image::records::entry_at` meets its contract. Assumes nothing.
 use borrow.Author.Needs.{needs}
-use native.Mathlib.Omega.{arith}
 use Rattle.model.specs.Tree.{sizesOf, treeOf}
 use Rattle.image.proofs.records.entry_at.Statement.{statement}
 use Rattle.image.proofs.records.entry_at.Tie as tie
 
 returns : tie.Need-returns
 unfolding treeOf sizesOf
-returns c = omega arith
+returns c = search needs
 
 pub entry-at-spec : {M : Type 1} → statement M
 entry-at-spec =

@@ -6,7 +6,7 @@ use Rattle.image.proofs.records.text_length.Tie as tie
 
 returns : tie.Need-returns
 unfolding treeOf sizesOf
-returns c = (c .u32-at .ensures .0, c .u32-at .ensures .1)
+returns c = search needs
 
 pub text-length-spec : {M : Type 1} → statement M
 text-length-spec = tie.close (tie.spec (λ c κs. search needs) returns)

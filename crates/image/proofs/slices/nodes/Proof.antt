@@ -1,9 +1,8 @@
 -- `image::slices::nodes` meets its contract. Assumes nothing.
 use borrow.Author.Needs.{needs}
-use Prim.Native.Nat.{ℕ, _+_, _*_}
-use mathlib.Core.Path.{_≡_, refl, ap}
+use mathlib.Core.Path.{refl}
+use Prim.Native.Nat.{_+_, _*_}
 use native.Mathlib.Omega.{arith}
-use denote.Ref.{now}
 use Rattle.model.specs.Tree.{sizesOf, nodesPart, treeOf}
 use Rattle.laws.proofs.StringLaws.{part-between}
 use Rattle.image.proofs.slices.nodes.Statement.{statement}
@@ -11,20 +10,11 @@ use Rattle.image.proofs.slices.nodes.Tie as tie
 
 part-result-end : tie.Need-part-result-end
 unfolding treeOf sizesOf
-part-result-end c =
-    let a = c .before .before .args in
-    let s = now (a .image) in
-    omega (arith, c .u16-at .ensures .0, c .before .before .pre .whole)
+part-result-end c = search needs
 
 returns : tie.Need-returns
 unfolding nodesPart sizesOf
-returns c =
-    let u16-at = c .before .u16-at in
-    let a = c .before .before .before .args in
-    let s = now (a .image) in
-    let n = u16-at .result in
-    let ends : 20 + 12 * n ≡ 20 + 12 * sizesOf s .nodes = ap (λ (k : ℕ). 20 + 12 * k) (u16-at .ensures .0) in
-    part-between s 20 (12 * sizesOf s .nodes) 20 (20 + 12 * n) refl ends
+returns c = part-between _ 20 _ 20 (20 + 12 * c .before .u16-at .result) refl (omega arith)
 
 pub nodes-spec : {M : Type 1} → statement M
 nodes-spec =

@@ -6,12 +6,6 @@ use borrow.Author.Needs.{needs}
 use Rattle.strings.proofs.blocks.deciding.Statement.{statement}
 use Rattle.strings.proofs.blocks.deciding.Tie as tie
 
-u32-at-requires : tie.Need-u32-at-requires
-u32-at-requires c κs = omega (arith, c .deciding-long .ensures .within)
-
-u32-at-requires-2 : tie.Need-u32-at-requires-2
-u32-at-requires-2 c κs = omega (arith, c .before .deciding-long .ensures .within)
-
 returns-2 : tie.Need-returns-2
 returns-2 c =
     let long = c .before .before .before .deciding-long in
@@ -20,9 +14,6 @@ returns-2 c =
     let b = now (args .b) in
     lower-part 4 4 (long .ensures) (omega arith)
     (loads-differ 4 a b (long .result) (c .before .before .u32-at .ensures .0) (c .before .u32-at2 .ensures .0) (c .if2 .taken))
-
-add-result : tie.Need-add-result
-add-result c = omega (arith, c .before .before .before .deciding-long .ensures .within)
 
 returns-3 : tie.Need-returns-3
 returns-3 c =
@@ -40,9 +31,7 @@ pub deciding-spec : {M : Type 1} → statement M
 deciding-spec =
     tie.close
     (tie.spec
-    (λ c κs. search needs) (λ c. search needs) (λ c κs. search needs)
-    u32-at-requires
-    u32-at-requires-2
+    (λ c κs. search needs) (λ c. search needs) (λ c κs. search needs) (λ c κs. search needs) (λ c κs. search needs)
     returns-2
-    add-result
+    (λ c. search needs)
     returns-3)

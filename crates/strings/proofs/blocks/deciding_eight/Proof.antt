@@ -14,9 +14,6 @@ Inv-loop a b last i₀ i = SameTo a b i
 abbrev μ-loop : tie.MeasureT-loop
 μ-loop a b last i₀ i = last - i
 
-loop-holds : tie.Need-loop-holds Inv-loop μ-loop
-loop-holds c = λ i h. absurd (omega arith)
-
 returns : tie.Need-returns Inv-loop μ-loop
 returns c =
     let loop = c .before .before .before .before .loop in
@@ -49,8 +46,7 @@ deciding-eight-spec =
     (tie.spec
     Inv-loop
     μ-loop
-    loop-holds
-    (λ c κs. search needs) (λ c κs. search needs)
+    (λ c. search needs) (λ c κs. search needs) (λ c κs. search needs)
     returns
     (λ c. search needs) (λ c. search needs)
     loop-again
