@@ -90,7 +90,9 @@ returns-5 c =
     let elsewhere = not (eqb (args .p .mount) (args .k .root .mount)) in
     let text = ap absolute (sym (at2 .before .before .body .ensures)) ∙ sym (at2 .before .is-absolute .ensures) in
     let slash : absolute (treeOf (now (args .image)) .body (args .n)) ≡ true = text ∙ not-false _ (at2 .if2 .left) in
-    rw (slash, link-row R, jump-row R elsewhere, sym (at1 .before .has .ensures) ∙ at1 .if1 .left, at3 .if3 .left, sym (at4 .before .has2 .ensures) ∙ at4 .if4 .left, sym (c .before .barred .ensures) ∙ c .if5 .taken)
+    let followed = sym (at1 .before .has .ensures) ∙ at1 .if1 .left in
+    let unscoped = sym (at4 .before .has2 .ensures) ∙ at4 .if4 .left in
+    rw (slash, link-row R, jump-row R elsewhere, followed, at3 .if3 .left, unscoped, sym (c .before .barred .ensures) ∙ c .if5 .taken)
 
 returns-6 : tie.Need-returns-6
 unfolding symbolicLink forbidAny
@@ -104,7 +106,9 @@ returns-6 c =
     let elsewhere = not (eqb (args .p .mount) (args .k .root .mount)) in
     let text = ap absolute (sym (at2 .before .before .body .ensures)) ∙ sym (at2 .before .is-absolute .ensures) in
     let slash : absolute (treeOf (now (args .image)) .body (args .n)) ≡ true = text ∙ not-false _ (at2 .if2 .left) in
-    rw (slash, link-row R, jump-row R elsewhere, sym (at1 .before .has .ensures) ∙ at1 .if1 .left, at3 .if3 .left, sym (at4 .before .has2 .ensures) ∙ at4 .if4 .left, sym (c .before .barred .ensures) ∙ c .if5 .left)
+    let followed = sym (at1 .before .has .ensures) ∙ at1 .if1 .left in
+    let unscoped = sym (at4 .before .has2 .ensures) ∙ at4 .if4 .left in
+    rw (slash, link-row R, jump-row R elsewhere, followed, at3 .if3 .left, unscoped, sym (c .before .barred .ensures) ∙ c .if5 .left)
 
 pub follow-symbolic-spec : {M : Type 1} → statement M
 follow-symbolic-spec =
