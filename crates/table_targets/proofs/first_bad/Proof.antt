@@ -9,17 +9,42 @@ use Rattle.model.specs.Tree.{Tree}
 use Rattle.parts.specs.Parts.{mountsTree}
 use Rattle.table_leads.specs.Climbs.{budget, unseenFrom}
 use Rattle.table_leads.specs.Leads.{brokenFrom}
-use Rattle.table_leads.proofs.ClimbLaws.{broken-done, unseen-stops, broken-unseen}
+use Rattle.table_leads.proofs.ClimbLaws.{broken-done, broken-unseen}
 use Rattle.table_targets.proofs.TargetLaws.{unsettled-alike, unsettled-found, broken-unsettled}
 use Rattle.table_targets.proofs.first_bad.Statement.{statement}
 use Rattle.table_targets.proofs.first_bad.Tie as tie
 
+abbrev tree : tie.Start → Tree
+tree s = mountsTree (s .args .c) (now (s .args .nodes)) (now (s .args .mounts))
+
+abbrev start : tie.After-first-unseen → tie.Start
+start d = d .before .before .before .before .before .before .before
+
+-- the lowest from where the quick way stopped is the lowest of all
+whole : (d : tie.After-first-unseen)
+    → let t = tree (start d) in brokenFrom true t (d .first-unseen .result) (t .nodes) ≡ brokenFrom true t 0 (t .nodes)
+whole d =
+    let s = start d in
+    let a = s .args in
+    let t = tree s in
+    let n = a .c .nodes in
+    let from = d .before .before .before .before .first-unsettled in
+    let unsettled = from .ensures ∙ unsettled-alike (a .c) (now (a .nodes)) (now (a .mounts)) in
+    let lent : mountsTree (a .c) (now (d .before .before .lend .result)) (now (d .before .lend2 .result)) ≡ t =
+    ap₂ (mountsTree (a .c)) (d .before .before .lend .ensures) (d .before .lend2 .ensures) in
+    let unseen = d .first-unseen .ensures ∙ ap (λ (u : Tree). unseenFrom true u (from .result) (n - from .result) (budget (a .c))) lent in
+    let low : from .result ≤ n = omega (arith, unsettled, unsettled-found t .below) in
+    ap (λ (k : ℕ). brokenFrom true t k n) unseen
+    ∙ broken-unseen true t (s .pre .2) n (omega arith) (from .result) (budget (a .c)) low
+    ∙ ap (λ (k : ℕ). brokenFrom true t k n) unsettled
+    ∙ broken-unsettled t
+
 returns : tie.Need-returns
 returns c =
-    let a = c .before .before .before .before .args in
-    let t = mountsTree (a .c) (now (a .nodes)) (now (a .mounts)) in
+    let s = c .before .before .before .before in
+    let a = s .args in
     let unsettled = c .before .first-unsettled .ensures ∙ unsettled-alike (a .c) (now (a .nodes)) (now (a .mounts)) in
-    sym (sym (broken-unsettled t) ∙ broken-done true t _ (a .c .nodes) (omega (arith, unsettled)))
+    sym (sym (broken-unsettled (tree s)) ∙ broken-done true (tree s) _ (a .c .nodes) (omega (arith, unsettled)))
 
 first-unseen-requires : tie.Need-first-unseen-requires
 first-unseen-requires c κs =
@@ -28,22 +53,8 @@ first-unseen-requires c κs =
 
 returns-2 : tie.Need-returns-2
 returns-2 c =
-    let a = c .before .before .before .before .before .before .before .before .args in
-    let first-unsettled = c .before .before .before .before .before .first-unsettled in
-    let lend = c .before .before .before .lend in
-    let lend2 = c .before .before .lend2 in
-    let first-unseen = c .before .first-unseen in
-    let pre = c .before .before .before .before .before .before .before .before .pre in
-    let t = mountsTree (a .c) (now (a .nodes)) (now (a .mounts)) in
-    let unsettled = first-unsettled .ensures ∙ unsettled-alike (a .c) (now (a .nodes)) (now (a .mounts)) in
-    let f = unsettled-found t in
-    let alike : mountsTree (a .c) (now (lend .result)) (now (lend2 .result)) ≡ t = ap₂ (mountsTree (a .c)) (lend .ensures) (lend2 .ensures) in
-    let unseen = first-unseen .ensures ∙ ap (λ (u : Tree). unseenFrom true u (first-unsettled .result) (a .c .nodes - first-unsettled .result) (budget (a .c))) alike in
-    let low : first-unsettled .result ≤ a .c .nodes = omega (arith, unsettled, f .below) in
-    let on = broken-unseen true t (pre .2) (a .c .nodes) (omega arith) (first-unsettled .result) (budget (a .c)) low in
-    let stop = unseen-stops true t (pre .2) (a .c .nodes) (omega arith) (first-unsettled .result) (budget (a .c)) low in
-    let whole = ap (λ (k : ℕ). brokenFrom true t k (a .c .nodes)) unseen ∙ on ∙ ap (λ (k : ℕ). brokenFrom true t k (a .c .nodes)) unsettled ∙ broken-unsettled t in
-    sym (sym whole ∙ broken-done true t (first-unseen .result) (a .c .nodes) (omega arith))
+    let d = c .before in
+    sym (sym (whole d) ∙ broken-done true (tree (start d)) (d .first-unseen .result) (start d .args .c .nodes) (omega arith))
 
 first-broken-requires : tie.Need-first-broken-requires
 first-broken-requires c κs =
@@ -52,25 +63,11 @@ first-broken-requires c κs =
 
 returns-3 : tie.Need-returns-3
 returns-3 c =
-    let a = c .before .before .before .before .before .before .before .before .before .before .before .args in
-    let first-unsettled = c .before .before .before .before .before .before .before .before .first-unsettled in
-    let lend = c .before .before .before .before .before .before .lend in
-    let lend2 = c .before .before .before .before .before .lend2 in
-    let first-unseen = c .before .before .before .before .first-unseen in
-    let pre = c .before .before .before .before .before .before .before .before .before .before .before .pre in
-    let lend3 = c .before .before .lend3 in
-    let lend4 = c .before .lend4 in
-    let t = mountsTree (a .c) (now (a .nodes)) (now (a .mounts)) in
-    let unsettled = first-unsettled .ensures ∙ unsettled-alike (a .c) (now (a .nodes)) (now (a .mounts)) in
-    let f = unsettled-found t in
-    let alike : mountsTree (a .c) (now (lend .result)) (now (lend2 .result)) ≡ t = ap₂ (mountsTree (a .c)) (lend .ensures) (lend2 .ensures) in
-    let unseen = first-unseen .ensures ∙ ap (λ (u : Tree). unseenFrom true u (first-unsettled .result) (a .c .nodes - first-unsettled .result) (budget (a .c))) alike in
-    let low : first-unsettled .result ≤ a .c .nodes = omega (arith, unsettled, f .below) in
-    let on = broken-unseen true t (pre .2) (a .c .nodes) (omega arith) (first-unsettled .result) (budget (a .c)) low in
-    let stop = unseen-stops true t (pre .2) (a .c .nodes) (omega arith) (first-unsettled .result) (budget (a .c)) low in
-    let whole = ap (λ (k : ℕ). brokenFrom true t k (a .c .nodes)) unseen ∙ on ∙ ap (λ (k : ℕ). brokenFrom true t k (a .c .nodes)) unsettled ∙ broken-unsettled t in
-    let alike2 : mountsTree (a .c) (now (lend3 .result)) (now (lend4 .result)) ≡ t = ap₂ (mountsTree (a .c)) (lend3 .ensures) (lend4 .ensures) in
-    c .first-broken .ensures ∙ ap (λ (u : Tree). brokenFrom true u (first-unseen .result) (a .c .nodes)) alike2 ∙ whole
+    let d = c .before .before .before .before in
+    let a = start d .args in
+    let lent : mountsTree (a .c) (now (c .before .before .lend3 .result)) (now (c .before .lend4 .result)) ≡ tree (start d) =
+    ap₂ (mountsTree (a .c)) (c .before .before .lend3 .ensures) (c .before .lend4 .ensures) in
+    c .first-broken .ensures ∙ ap (λ (u : Tree). brokenFrom true u (d .first-unseen .result) (a .c .nodes)) lent ∙ whole d
 
 pub first-bad-spec : {M : Type 1} → statement M
 first-bad-spec =
