@@ -38,11 +38,6 @@ up-ends [] = λ h. absurd (omega arith)
 up-ends (b ∷ u) =
     up-cases (λ l. length l < length (b ∷ u) → isSlash (getD (b ∷ u) (length l) 0) ≡ true) b u (λ e h. e) (λ _ h. up-ends u (omega arith))
 
-up-some : (u : List ℕ) → 0 < length u → isSlash (getD u 0 0) ≡ false → 0 < length (upToSlash u)
-unfolding upToSlash
-up-some [] h e = absurd (omega arith)
-up-some (b ∷ u) h e = rw e (omega arith)
-
 -- the slashes that a list starts with, by its first byte
 slashes-cases : (P : ℕ → Type 0) (b : ℕ) (u : List ℕ) → (isSlash b ≡ true → P (suc (slashes u))) → (isSlash b ≡ false → P 0)
     → P (slashes (b ∷ u))
@@ -149,9 +144,6 @@ module _ (s : List ℕ) (at : ℕ) where
   pub bytes-up : upToSlash (drop at s) ≡ componentBytes s at
   bytes-up = up-part (drop at s) ∙ ap (λ (n : ℕ). take n (drop at s)) (sym bytes-count)
 
-  pub bytes-length : length (componentBytes s at) ≡ componentEnd s at - at
-  bytes-length = ap length (sym bytes-up) ∙ sym bytes-count
-
 -- the components left from any position on
 module _ (x : ℕ) (s : List ℕ) where
   left-past : (at : ℕ) → left x s at ≡ left x s (pastSlashes s at)
@@ -184,12 +176,6 @@ module _ (s : List ℕ) (at : ℕ) (stands : Stands s at) where
   on-component h =
       let here = ap isSlash (getD-drop at s 0 0) ∙ ap (λ (k : ℕ). isSlash (getD s k 0)) (add-zero at) in
       (omega (arith, length-drop at s), here ∙ stands .no-slash h)
-
-  -- a component has bytes, so the positions go forward
-  pub end-after : at < length s → at < componentEnd s at
-  end-after h =
-      let p = on-component h in
-      omega (arith, up-some (drop at s) (p .0) (p .1))
 
   pub left-here : (x : ℕ) → at < length s → left x s at ≡ componentAt x s at ∷ left x s (nextStart s at)
   unfolding left
