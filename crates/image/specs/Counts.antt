@@ -1,5 +1,5 @@
 -- The counts of an image's header.
-use Prim.Native.Nat.{ℕ, _^_, _<_}
+use Prim.Native.Nat.{ℕ}
 use mathlib.Core.List.{List}
 use mathlib.Core.Path.{_≡_}
 use Rattle.model.specs.Tree.{sizesOf, treeOf}

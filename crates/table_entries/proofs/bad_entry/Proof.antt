@@ -28,11 +28,12 @@ loop-holds c =
 
 returns : tie.Need-returns Inv-loop μ-loop
 returns c =
-    let a = c .before .before .before .before .before .before .before .before .before .args in
+    let d = c .before .before .before .before .before .before .before .before .before in
+    let a = d .args in
     let l = c .before .before .before .before .before .loop in
     let found = c .before .found in
     let bad-in-node = c .before .before .before .bad-in-node in
-    let pre = c .before .before .before .before .before .before .before .before .before .pre in
+    let pre = d .pre in
     let t = entriesTree (a .c) (now (a .nodes)) (now (a .entries)) (now (a .text)) in
     let g = found .given in
     let r = search-at (badOf t (l .n)) (g .0 .0) (sym (bad-in-node .ensures) ∙ g .1) in
@@ -43,9 +44,10 @@ enum-told c = search needs
 
 returns-2 : tie.Need-returns-2 Inv-loop μ-loop
 returns-2 c =
-    let a = c .before .before .before .before .before .before .before .before .before .before .args in
+    let at-start = c .before .before .before .before .before .before .before .before .before .before in
+    let a = at-start .args in
     let l = c .before .before .before .before .before .before .loop in
-    let pre = c .before .before .before .before .before .before .before .before .before .before .pre in
+    let pre = at-start .pre in
     let bad-in-node = c .before .before .before .before .bad-in-node in
     let enum-told = c .before .before .enum-told in
     let ends-entries = c .before .ends-entries in
@@ -58,20 +60,22 @@ returns-2 c =
 
 loop-again : tie.Need-loop-again Inv-loop μ-loop
 loop-again c =
-    let a = c .before .before .before .before .before .before .before .before .before .before .args in
+    let d = c .before .before .before .before .before .before .before .before .before .before in
+    let a = d .args in
     let l = c .before .before .before .before .before .before .loop in
     let bad-in-node = c .before .before .before .before .bad-in-node in
     let enum-told = c .before .before .enum-told in
-    let pre = c .before .before .before .before .before .before .before .before .before .before .pre in
+    let pre = d .pre in
     let t = entriesTree (a .c) (now (a .nodes)) (now (a .entries)) (now (a .text)) in
     let r = search-nowhere (badOf t (l .n)) (sym (bad-in-node .ensures) ∙ enum-told .given .1) in
     (l .inv .0, omega arith, rule5-on t (pre .0 .directories-hold) (l .n) (omega arith) (l .inv .2) r)
 
 returns-3 : tie.Need-returns-3 Inv-loop μ-loop
 returns-3 c =
-    let a = c .before .before .before .before .before .args in
+    let d = c .before .before .before .before .before in
+    let a = d .args in
     let l = c .before .loop in
-    let pre = c .before .before .before .before .before .pre in
+    let pre = d .pre in
     let t = entriesTree (a .c) (now (a .nodes)) (now (a .entries)) (now (a .text)) in
     let n : l .n ≡ t .nodes = omega arith in
     sym (ap searchOf (rule5-end t (l .n) (l .inv .2) (ap (countsBefore t) n ∙ pre .0 .directories-hold .counts-sum)))

@@ -30,15 +30,17 @@ abbrev μ-loop : tie.MeasureT-loop
 
 node-first-requires : tie.Need-node-first-requires Inv-loop μ-loop
 node-first-requires c κs =
-    let a = c .before .before .before .args in
-    let p = c .before .before .before .pre in
+    let d = c .before .before .before in
+    let a = d .args in
+    let p = d .pre in
     let t = entriesTree (a .c) (now (a .nodes)) (now (a .entries)) (now (a .text)) in
     omega (arith, directory-below t (p .0 .directories-hold) (a .n) (p .1), p .0 .node-records .whole)
 
 node-count-requires : tie.Need-node-count-requires Inv-loop μ-loop
 node-count-requires c κs =
-    let a = c .before .before .before .before .args in
-    let p = c .before .before .before .before .pre in
+    let d = c .before .before .before .before in
+    let a = d .args in
+    let p = d .pre in
     let t = entriesTree (a .c) (now (a .nodes)) (now (a .entries)) (now (a .text)) in
     omega (arith, directory-below t (p .0 .directories-hold) (a .n) (p .1), p .0 .node-records .whole)
 

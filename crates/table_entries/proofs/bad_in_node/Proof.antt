@@ -17,15 +17,17 @@ returns c =
 
 bad-in-directory-requires : tie.Need-bad-in-directory-requires
 bad-in-directory-requires c κs =
-    let a = c .before .before .before .before .before .args in
-    let p = c .before .before .before .before .before .pre in
+    let d = c .before .before .before .before .before in
+    let a = d .args in
+    let p = d .pre in
     let t = entriesTree (a .c) (now (a .nodes)) (now (a .entries)) (now (a .text)) in
     (p .0, is-directory t (a .n) (p .1) (sym (c .before .node-kind .ensures .0) ∙ c .if1 .left), p .2)
 
 returns-2 : tie.Need-returns-2
 returns-2 c =
-    let a = c .before .before .before .before .before .before .args in
-    let p = c .before .before .before .before .before .before .pre in
+    let d = c .before .before .before .before .before .before in
+    let a = d .args in
+    let p = d .pre in
     let t = entriesTree (a .c) (now (a .nodes)) (now (a .entries)) (now (a .text)) in
     let k = sym (c .before .before .node-kind .ensures .0) ∙ c .before .if1 .left in
     c .bad-in-directory .ensures ∙ ap searchOf (directory-bad t (p .0 .directories-hold) (a .n) (p .1) k)

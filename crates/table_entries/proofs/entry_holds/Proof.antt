@@ -14,8 +14,9 @@ use Rattle.table_entries.proofs.entry_holds.Tie as tie
 
 name-holds-requires : tie.Need-name-holds-requires
 name-holds-requires c κs =
-    let a = c .before .before .before .args in
-    let p = c .before .before .before .pre in
+    let d = c .before .before .before in
+    let a = d .args in
+    let p = d .pre in
     let t = entriesTree (a .c) (now (a .nodes)) (now (a .entries)) (now (a .text)) in
     (p .0 .entry-records, held-inside t (p .0 .directories-hold) (a .n) (a .e) (p .1), p .4)
 
@@ -28,8 +29,9 @@ returns c =
 
 entry-node-requires : tie.Need-entry-node-requires
 entry-node-requires c κs =
-    let a = c .before .before .before .before .before .args in
-    let p = c .before .before .before .before .before .pre in
+    let d = c .before .before .before .before .before in
+    let a = d .args in
+    let p = d .pre in
     let t = entriesTree (a .c) (now (a .nodes)) (now (a .entries)) (now (a .text)) in
     omega (arith, held-inside t (p .0 .directories-hold) (a .n) (a .e) (p .1), p .0 .entry-records .whole)
 
@@ -42,8 +44,9 @@ returns-2 c =
 entry-ascends-requires : tie.Need-entry-ascends-requires
 unfolding nameHolds
 entry-ascends-requires c κs =
-    let a = c .before .before .before .before .before .before .before .before .args in
-    let p = c .before .before .before .before .before .before .before .before .pre in
+    let d = c .before .before .before .before .before .before .before .before in
+    let a = d .args in
+    let p = d .pre in
     let name-holds = c .before .before .before .before .name-holds in
     let if1 = c .before .before .before .if1 in
     let t = entriesTree (a .c) (now (a .nodes)) (now (a .entries)) (now (a .text)) in
@@ -54,8 +57,9 @@ entry-ascends-requires c κs =
 
 returns-3 : tie.Need-returns-3
 returns-3 c =
-    let a = c .before .before .before .before .before .before .before .before .before .before .args in
-    let p = c .before .before .before .before .before .before .before .before .before .before .pre in
+    let d = c .before .before .before .before .before .before .before .before .before .before in
+    let a = d .args in
+    let p = d .pre in
     let entry-ascends = c .before .entry-ascends in
     let t = entriesTree (a .c) (now (a .nodes)) (now (a .entries)) (now (a .text)) in
     let order = ascends-from (a .c) (now (a .nodes)) (now (a .entries)) (now (a .text)) (p .0 .directories-hold) (a .n) (a .first) (a .e) (p .1) (p .2) in
@@ -63,8 +67,9 @@ returns-3 c =
 
 stands-in-parent-requires : tie.Need-stands-in-parent-requires
 stands-in-parent-requires c κs =
-    let a = c .before .before .before .before .before .before .before .before .before .before .args in
-    let p = c .before .before .before .before .before .before .before .before .before .before .pre in
+    let at-start = c .before .before .before .before .before .before .before .before .before .before in
+    let a = at-start .args in
+    let p = at-start .pre in
     let text = now (a .text) in
     let d = directories-hold (a .c) (now (a .nodes)) [] (now (a .entries)) text [] (now (a .entries)) [] (p .0 .directories-hold) in (
       record { node-records = p .0 .node-records; entry-records = p .0 .entry-records; directories-hold = d },
@@ -75,8 +80,9 @@ stands-in-parent-requires c κs =
 returns-4 : tie.Need-returns-4
 unfolding nameHolds standsInParent holds isDirectory
 returns-4 c =
-    let a = c .before .before .before .before .before .before .before .before .before .before .before .args in
-    let p = c .before .before .before .before .before .before .before .before .before .before .before .pre in
+    let d = c .before .before .before .before .before .before .before .before .before .before .before in
+    let a = d .args in
+    let p = d .pre in
     let name-holds = c .before .before .before .before .before .before .before .name-holds in
     let if1 = c .before .before .before .before .before .before .if1 in
     let entry-ascends = c .before .before .entry-ascends in

@@ -32,8 +32,9 @@ returns c =
 
 node-parent-requires : tie.Need-node-parent-requires Inv-loop μ-loop
 node-parent-requires c κs =
-    let a = c .before .before .before .before .args in
-    let pre = c .before .before .before .before .pre in
+    let d = c .before .before .before .before in
+    let a = d .args in
+    let pre = d .pre in
     let loop = c .before .before .loop in
     omega (arith, directory-below (mountsTree (a .c) (now (a .nodes)) []) (pre .1) (loop .k) (loop .inv .0 (a .c) (pre .1) (pre .2)), pre .0 .whole)
 

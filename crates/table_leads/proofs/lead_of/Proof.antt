@@ -10,8 +10,9 @@ use Rattle.table_leads.proofs.lead_of.Tie as tie
 
 link-lead-requires : tie.Need-link-lead-requires
 link-lead-requires c κs =
-    let pre = c .before .before .before .pre in
-    let a = c .before .before .before .args in
+    let d = c .before .before .before in
+    let pre = d .pre in
+    let a = d .args in
     (pre .0, subst (λ (b : Bool). a .k < counted b (a .c)) (c .if1 .taken) (pre .2))
 
 returns : tie.Need-returns
@@ -22,8 +23,9 @@ returns c =
 
 mount-lead-requires : tie.Need-mount-lead-requires
 mount-lead-requires c κs =
-    let a = c .before .before .before .args in
-    let pre = c .before .before .before .pre in
+    let d = c .before .before .before in
+    let a = d .args in
+    let pre = d .pre in
     (pre .0, pre .1, subst (λ (b : Bool). a .k < counted b (a .c)) (c .if1 .left) (pre .2))
 
 returns-2 : tie.Need-returns-2

@@ -15,8 +15,9 @@ use Rattle.table_leads.proofs.steps_left.Tie as tie
 
 mount-root-requires : tie.Need-mount-root-requires
 mount-root-requires c κs =
-    let a = c .before .before .before .before .before .before .args in
-    let pre = c .before .before .before .before .before .before .pre in
+    let d = c .before .before .before .before .before .before in
+    let a = d .args in
+    let pre = d .pre in
     let lead-of = c .before .before .before .lead-of in
     let mount = c .before .mount in
     let t = mountsTree (a .c) (now (a .nodes)) (now (a .mounts)) in
@@ -26,8 +27,9 @@ mount-root-requires c κs =
 climb-requires : tie.Need-climb-requires
 unfolding isDirectory
 climb-requires c κs =
-    let a = c .before .before .before .before .before .before .before .args in
-    let pre = c .before .before .before .before .before .before .before .pre in
+    let d = c .before .before .before .before .before .before .before in
+    let a = d .args in
+    let pre = d .pre in
     let lead-of = c .before .before .before .before .lead-of in
     let mount = c .before .before .mount in
     let t = mountsTree (a .c) (now (a .nodes)) (now (a .mounts)) in

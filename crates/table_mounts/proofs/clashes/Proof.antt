@@ -9,17 +9,19 @@ use Rattle.table_mounts.proofs.clashes.Tie as tie
 
 returns : tie.Need-returns
 returns c =
-    let a = c .before .before .before .before .before .before .args in
-    let pre = c .before .before .before .before .before .before .pre in
+    let d = c .before .before .before .before .before .before in
+    let a = d .args in
+    let pre = d .pre in
     let slot = c .before .before .before .slot in
     let if1 = c .before .if1 in
     (c .shares-point .ensures, noted-on (now (a .mounts)) (a .m) (now (a .points)) (pre .1) (slot .result) (slot .ensures) (if1 .taken), refl)
 
 returns-2 : tie.Need-returns-2
 returns-2 c =
+    let d = c .before .before .before .before .before in
     let slot = c .before .before .slot in
-    let pre = c .before .before .before .before .before .pre in
-    let a = c .before .before .before .before .before .args in
+    let pre = d .pre in
+    let a = d .args in
     let s = now (a .mounts) in
     let points = now (a .points) in
     let at = slot .result in (

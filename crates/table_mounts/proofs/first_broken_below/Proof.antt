@@ -17,8 +17,9 @@ use Rattle.table_mounts.proofs.first_broken_below.Tie as tie
 
 returns : tie.Need-returns
 returns c =
-    let a = c .before .before .before .before .before .args in
-    let pre = c .before .before .before .before .before .pre in
+    let d = c .before .before .before .before .before in
+    let a = d .args in
+    let pre = d .pre in
     let is-settled = c .before .is-settled in
     let mount-lead = c .before .before .mount-lead in
     let t = mountsTree (a .c) (now (a .nodes)) (now (a .mounts)) in
@@ -26,8 +27,9 @@ returns c =
 
 returns-2 : tie.Need-returns-2
 returns-2 c =
-    let a = c .before .before .before .before .before .before .args in
-    let pre = c .before .before .before .before .before .before .pre in
+    let d = c .before .before .before .before .before .before in
+    let a = d .args in
+    let pre = d .pre in
     let is-settled = c .before .before .is-settled in
     let mount-lead = c .before .before .before .mount-lead in
     let if1 = c .before .if1 in
@@ -42,8 +44,9 @@ first-unseen-requires c κs =
 
 returns-3 : tie.Need-returns-3
 returns-3 c =
-    let a = c .before .before .before .before .before .before .before .before .before .before .args in
-    let pre = c .before .before .before .before .before .before .before .before .before .before .pre in
+    let d = c .before .before .before .before .before .before .before .before .before .before in
+    let a = d .args in
+    let pre = d .pre in
     let is-settled = c .before .before .before .before .before .before .is-settled in
     let mount-lead = c .before .before .before .before .before .before .before .mount-lead in
     let if1 = c .before .before .before .before .before .if1 in
@@ -65,8 +68,9 @@ first-broken-requires c κs =
 
 returns-4 : tie.Need-returns-4
 returns-4 c =
-    let a = c .before .before .before .before .before .before .before .before .before .before .before .before .before .args in
-    let pre = c .before .before .before .before .before .before .before .before .before .before .before .before .before .pre in
+    let d = c .before .before .before .before .before .before .before .before .before .before .before .before .before in
+    let a = d .args in
+    let pre = d .pre in
     let is-settled = c .before .before .before .before .before .before .before .before .before .is-settled in
     let mount-lead = c .before .before .before .before .before .before .before .before .before .before .mount-lead in
     let if1 = c .before .before .before .before .before .before .before .before .if1 in

@@ -12,8 +12,9 @@ use Rattle.table_nodes.proofs.directory_count.Tie as tie
 returns : tie.Need-returns
 unfolding directoryCount
 returns c =
-    let a = c .before .before .before .args in
-    let pre = c .before .before .before .pre in
+    let d = c .before .before .before in
+    let a = d .args in
+    let pre = d .pre in
     let if1 = c .before .if1 in
     (c .node-count .ensures .0 ∙ rw (eq-eqb (kindIn (now (a .nodes)) (a .n)) 1 (sym (pre .2) ∙ if1 .taken)), omega arith)
 

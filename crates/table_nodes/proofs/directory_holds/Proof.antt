@@ -29,11 +29,12 @@ returns-2 c =
 returns-3 : tie.Need-returns-3
 unfolding directoryHolds isDirectory
 returns-3 c =
-    let a = c .before .before .before .before .before .before .args in
+    let d = c .before .before .before .before .before .before in
+    let a = d .args in
     let kind = kindIn (now (a .nodes)) in
     let p = parentIn (now (a .nodes)) (a .n) in
     let k = c .before .before .node-kind .ensures .0 ∙ ap kind (c .before .before .before .before .node-parent .ensures .0) in
-    ap₂ eqb (c .node-first .ensures .0) (c .before .before .before .before .before .before .pre .2)
+    ap₂ eqb (c .node-first .ensures .0) (d .pre .2)
     ∙ rw (lt-ltb p (a .c .nodes) (omega arith), eq-eqb (kind p) 1 (sym k ∙ c .before .if2 .left), le-leb p (a .n) (omega arith))
 
 pub directory-holds-spec : {M : Type 1} → statement M

@@ -31,8 +31,9 @@ returns-4 c = let k = sym (c .before .before .before .before .pre .2) ∙ c .bef
 returns-5 : tie.Need-returns-5
 unfolding nodeHolds
 returns-5 c =
-    let a = c .before .before .before .args in
-    let pre = c .before .before .before .pre in
+    let d = c .before .before .before in
+    let a = d .args in
+    let pre = d .pre in
     let k = kindIn (now (a .nodes)) (a .n) in
     let r = c .match .rest in
     let e = pre .2 in

@@ -43,8 +43,9 @@ returns-4 c =
 
 returns-5 : tie.Need-returns-5
 returns-5 c =
-    let a = c .before .before .before .before .before .before .before .before .before .before .args in
-    let p = c .before .before .before .before .before .before .before .before .before .before .pre in
+    let d = c .before .before .before .before .before .before .before .before .before .before in
+    let a = d .args in
+    let p = d .pre in
     let node-parent = c .before .before .before .before .before .before .node-parent in
     let if1 = c .before .before .before .before .before .if1 in
     let t = nodesTree (a .c) (now (a .nodes)) (now (a .text)) in

@@ -8,22 +8,25 @@ use Rattle.table_under.proofs.first_broken.Tie as tie
 
 note-roots-requires : tie.Need-note-roots-requires
 note-roots-requires c κs =
-    let a = c .before .before .before .args in
-    let p = c .before .before .before .pre in
+    let d = c .before .before .before in
+    let a = d .args in
+    let p = d .pre in
     (p .1, rooted-none (a .c .nodes) 4096 _ (p .0 .few))
 
 pass-down-requires : tie.Need-pass-down-requires
 pass-down-requires c κs =
-    let a = c .before .before .before .before .before .before .before .args in
-    let p = c .before .before .before .before .before .before .before .pre in
+    let d = c .before .before .before .before .before .before .before in
+    let a = d .args in
+    let p = d .pre in
     let rooted = c .before .before .before .note-roots .ensures in
     let t = mountsTree (a .c) (now (a .nodes)) (now (a .mounts)) in
     (p .0, rooted .room, charted-none t _ (p .1 .few) rooted .numbered .fitting)
 
 first-failing-requires : tie.Need-first-failing-requires
 first-failing-requires c κs =
-    let a = c .before .before .before .before .before .before .before .before .before .before .before .before .args in
-    let p = c .before .before .before .before .before .before .before .before .before .before .before .before .pre in
+    let d = c .before .before .before .before .before .before .before .before .before .before .before .before in
+    let a = d .args in
+    let p = d .pre in
     let rooted = c .before .before .before .before .before .before .before .before .note-roots .ensures in
     let t = mountsTree (a .c) (now (a .nodes)) (now (a .mounts)) in
     (p .0, p .1, charted-all t (p .2) _ _ (p .1 .few) rooted (c .before .before .before .before .pass-down .ensures), p .3, p .4)

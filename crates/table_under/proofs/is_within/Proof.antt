@@ -11,15 +11,17 @@ returns c = within-outside _ _ _ (c .before .before .mount-root .ensures .0) (om
 
 sub-has-bit : tie.Need-sub-has-bit
 sub-has-bit c =
-    let a = c .before .before .before .before .before .before .before .before .before .before .args in
-    let p = c .before .before .before .before .before .before .before .before .before .before .pre in
+    let d = c .before .before .before .before .before .before .before .before .before .before in
+    let a = d .args in
+    let p = d .pre in
     let mount-root = c .before .before .before .before .before .before .mount-root in
     omega (arith, own-some (p .1) (a .mount) (mount-root .result) (mount-root .ensures .0) (p .2) (omega arith), c .wide2 .ensures .0)
 
 has-bit-requires : tie.Need-has-bit-requires
 has-bit-requires c κs =
-    let a = c .before .before .before .before .before .before .before .before .before .before .args in
-    let fitting = c .before .before .before .before .before .before .before .before .before .before .pre .1 .fitting in
+    let d = c .before .before .before .before .before .before .before .before .before .before in
+    let a = d .args in
+    let fitting = d .pre .1 .fitting in
     let mount-root = c .before .before .before .before .before .before .mount-root in (
       omega (arith, fitting .wide, fitting .few (a .node), c .before .before .wide .ensures .0),
       omega (arith, fitting .few (mount-root .result), c .wide2 .ensures .0),

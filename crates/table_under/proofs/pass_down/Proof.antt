@@ -24,8 +24,9 @@ loop-holds c = search needs
 
 loop-again : tie.Need-loop-again Inv-loop μ-loop
 loop-again c =
-    let a = c .before .before .before .before .before .before .before .before .before .before .before .before .args in
-    let p = c .before .before .before .before .before .before .before .before .before .before .before .before .pre in
+    let d = c .before .before .before .before .before .before .before .before .before .before .before .before in
+    let a = d .args in
+    let p = d .pre in
     let l = c .before .before .before .before .before .before .before .before .loop in
     let pass-to = c .before .before .before .before .pass-to in
     let s = chart (l .near) (l .rows) in (

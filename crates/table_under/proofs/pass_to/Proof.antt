@@ -14,10 +14,11 @@ returns c = pass-on _ _ _ _ (c .before .before .before .row-above .ensures) (c .
 
 copy-row-requires : tie.Need-copy-row-requires
 copy-row-requires c κs =
-    let a = c .before .before .before .before .before .before .before .before .before .before .args in
+    let d = c .before .before .before .before .before .before .before .before .before .before in
+    let a = d .args in
     let s = chart (now (a .near)) (now (a .rows)) in
     let parent = parentIn (now (a .nodes)) in
-    let fitting = c .before .before .before .before .before .before .before .before .before .before .pre .2 in
+    let fitting = d .pre .2 in
     let row-above = c .before .before .before .before .before .row-above in
     let wide = c .before .before .before .wide in (
       omega (arith, above-room parent (a .n) s fitting, row-above .ensures, c .wide2 .ensures .0),
@@ -26,9 +27,10 @@ copy-row-requires c κs =
 
 set-bit-requires : tie.Need-set-bit-requires
 set-bit-requires c κs =
-    let a = c .before .before .before .before .before .before .before .before .before .before .before .before .before .before .args in
+    let d = c .before .before .before .before .before .before .before .before .before .before .before .before .before .before in
+    let a = d .args in
     let s = chart (now (a .near)) (now (a .rows)) in
-    let fitting = c .before .before .before .before .before .before .before .before .before .before .before .before .before .before .pre .2 in
+    let fitting = d .pre .2 in
     let wide = c .before .before .before .before .before .before .before .wide in (
       omega (arith, own-room (a .n) s fitting, wide .ensures .0, c .before .before .before .copy-row .kept .0),
       omega (arith, fitting .few (a .n), wide .ensures .0),

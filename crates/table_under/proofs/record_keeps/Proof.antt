@@ -11,8 +11,9 @@ use Rattle.table_under.proofs.record_keeps.Tie as tie
 
 is-within-requires : tie.Need-is-within-requires
 is-within-requires c κs =
-    let a = c .before .before .before .before .before .before .before .before .args in
-    let p = c .before .before .before .before .before .before .before .before .pre in
+    let d = c .before .before .before .before .before .before .before .before in
+    let a = d .args in
+    let p = d .pre in
     let s = chart (now (a .near)) (now (a .rows)) in
     let t = mountsTree (a .c) (now (a .nodes)) (now (a .mounts)) in
     let l = led t s (a .links) (a .k) (p .2) (p .3) (sym (c .before .before .before .lead-of .ensures) ∙ c .before .mount .given .1) in
@@ -25,8 +26,9 @@ returns c =
 
 returns-2 : tie.Need-returns-2
 returns-2 c =
-    let a = c .before .before .before .before .before .before .before .before .before .args in
-    let p = c .before .before .before .before .before .before .before .before .before .pre in
+    let d = c .before .before .before .before .before .before .before .before .before in
+    let a = d .args in
+    let p = d .pre in
     let s = chart (now (a .near)) (now (a .rows)) in
     let t = mountsTree (a .c) (now (a .nodes)) (now (a .mounts)) in
     let into = sym (c .before .before .before .before .lead-of .ensures) ∙ c .before .before .mount .given .1 in

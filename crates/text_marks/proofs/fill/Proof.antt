@@ -42,8 +42,9 @@ loop-again c =
 
 returns : tie.Need-returns Inv-loop μ-loop
 returns c =
-    let a = c .before .before .before .before .before .args in
-    let p = c .before .before .before .before .before .pre in
+    let d = c .before .before .before .before .before in
+    let a = d .args in
+    let p = d .pre in
     let l = c .before .loop in
     let done : l .b ≡ 0 = omega arith in
     let all = subst (λ (b : ℕ). MarkedFrom (a .names) (now (a .text)) b (l .marks) (l .behind)) done (l .inv .2) in

@@ -10,8 +10,9 @@ use Rattle.text_marks.proofs.next_barred.Tie as tie
 
 returns : tie.Need-returns
 returns c =
-    let a = c .before .before .before .before .before .before .before .args in
-    let p = c .before .before .before .before .before .before .before .pre in
+    let d = c .before .before .before .before .before .before .before in
+    let a = d .args in
+    let p = d .pre in
     let all = p .0 .all in
     let b = a .at / 64 in
     let is = c .before .wide .ensures .0 ∙ all .later b (omega arith) (omega arith) in

@@ -39,8 +39,9 @@ loop-holds c =
 
 is-named-requires : tie.Need-is-named-requires Inv-loop μ-loop
 is-named-requires c κs =
-    let args = c .before .before .before .before .before .before .args in
-    let pre = c .before .before .before .before .before .before .pre in
+    let d = c .before .before .before .before .before .before in
+    let args = d .args in
+    let pre = d .pre in
     let loop = c .before .loop in
     let s = now (args .image) in
     let sound = accepted-sound s (pre .1) in

@@ -52,9 +52,10 @@ loop-holds c =
 
 returns-3 : tie.Need-returns-3 Inv-loop μ-loop
 returns-3 c =
+    let d = c .before .before .before .before .before .before .before .before in
     let l = c .before .before .before .loop in
-    let a = c .before .before .before .before .before .before .before .before .args in
-    let few = c .before .before .before .before .before .before .before .before .pre .0 .sized .few-mounts in
+    let a = d .args in
+    let few = d .pre .0 .sized .few-mounts in
     let t = treeOf (now (a .image)) in
     let point = c .before .packed-point .ensures in
     let same = packed-same (t .mountParent (l .m)) (t .mountPoint (l .m)) (a .mount) (a .node) (point .1) (omega (arith, few)) (sym (point .0) ∙ c .if3 .taken) in

@@ -13,15 +13,17 @@ use Rattle.tree.proofs.is_named.Tie as tie
 
 returns : tie.Need-returns
 returns c =
-    let args = c .before .before .before .before .args in
+    let d = c .before .before .before .before in
+    let args = d .args in
     let name-length = c .before .name-length in
-    let pre = c .before .before .before .before .pre in
+    let pre = d .pre in
     sym (differing (treeOf (now (args .image)) .name (args .e)) (now (args .wanted)) (λ q. omega (arith, name-length .ensures .0, name-whole (now (args .image)) (args .e) (pre .0 .sized) (pre .2))))
 
 same-sized-requires : tie.Need-same-sized-requires
 same-sized-requires c κs =
-    let args = c .before .before .before .before .before .args in
-    let pre = c .before .before .before .before .before .pre in
+    let d = c .before .before .before .before .before in
+    let args = d .args in
+    let pre = d .pre in
     let name-length = c .before .before .name-length in
     let if1 = c .before .if1 in
     ap length (c .name .ensures) ∙ name-whole (now (args .image)) (args .e) (pre .0 .sized) (pre .2) ∙ sym (name-length .ensures .0) ∙ if1 .left

@@ -21,33 +21,37 @@ abbrev μ-loop : tie.MeasureT-loop
 
 node-parent-requires : tie.Need-node-parent-requires Inv-loop μ-loop
 node-parent-requires c κs =
-    let pre = c .before .before .before .pre in
-    let args = c .before .before .before .args in
+    let d = c .before .before .before in
+    let pre = d .pre in
+    let args = d .args in
     let loop = c .before .loop in
     (pre .0, directory-below (treeOf (now (args .image))) (pre .1) (loop .k) (loop .inv .0))
 
 returns : tie.Need-returns Inv-loop μ-loop
 returns c =
-    let args = c .before .before .before .before .before .args in
+    let d = c .before .before .before .before .before in
+    let args = d .args in
     let loop = c .before .before .before .loop in
-    let pre = c .before .before .before .before .before .pre in
+    let pre = d .pre in
     let node-parent = c .before .node-parent in
     let t = treeOf (now (args .image)) in
     sym (loop .inv .1 ∙ under-top t (pre .1) (args .root) (loop .k) (sym (node-parent .ensures .0) ∙ c .if1 .taken) ∙ ne-eqb (loop .k) (args .root) (λ e. omega arith))
 
 loop-less : tie.Need-loop-less Inv-loop μ-loop
 loop-less c =
-    let args = c .before .before .before .before .before .args in
-    let pre = c .before .before .before .before .before .pre in
+    let d = c .before .before .before .before .before in
+    let args = d .args in
+    let pre = d .pre in
     let loop = c .before .before .before .loop in
     let node-parent = c .before .node-parent in
     let t = treeOf (now (args .image)) in omega (arith, parent-le t (pre .1) (loop .k) (loop .inv .0), node-parent .ensures .0)
 
 loop-again : tie.Need-loop-again Inv-loop μ-loop
 loop-again c =
-    let args = c .before .before .before .before .before .args in
+    let d = c .before .before .before .before .before in
+    let args = d .args in
     let node-parent = c .before .node-parent in
-    let pre = c .before .before .before .before .before .pre in
+    let pre = d .pre in
     let loop = c .before .before .before .loop in
     let t = treeOf (now (args .image)) in (
       subst (λ (k : ℕ). isDirectory t k ≡ true) (sym (node-parent .ensures .0)) (parent-directory t (pre .1) (loop .k) (loop .inv .0)),
@@ -58,9 +62,10 @@ loop-again c =
 
 returns-2 : tie.Need-returns-2 Inv-loop μ-loop
 returns-2 c =
+    let d = c .before .before .before in
     let loop = c .before .loop in
-    let args = c .before .before .before .args in
-    let pre = c .before .before .before .pre in
+    let args = d .args in
+    let pre = d .pre in
     sym (loop .inv .1 ∙ under-met (treeOf (now (args .image))) (pre .1) (args .root) (loop .k) (loop .inv .0) (c .loop-test .left))
 
 pub is-under-spec : {M : Type 1} → statement M

@@ -36,9 +36,11 @@ returns-3 c =
     sym (name-test t (a .e) ∙ simp (lt-leb (t .nameLength (a .e)) 255 (omega arith), and-false))
 
 holds-forbidden-requires : tie.Need-holds-forbidden-requires
-holds-forbidden-requires c κs = λ k.
-    let a = c .before .before .before .before .before .before .before .before .args in
-    let p = c .before .before .before .before .before .before .before .before .pre in
+holds-forbidden-requires c κs =
+    let d = c .before .before .before .before .before .before .before .before in
+    λ k.
+    let a = d .args in
+    let p = d .pre in
     let n = c .name .ensures in
     ap (holdsBarred true) n
     ∙ sure-name (now (a .entries)) (now (a .text)) (a .c .entries) (a .e) (omega (arith, p .2, ltb-true (a .e) (a .sure) k)) (omega arith)
