@@ -1,15 +1,31 @@
 // The marks of one block: a bit for each of its bytes, the first one lowest, set where the byte is barred.
-use crate::bytes::block_holds;
 use crate::bytes::is_barred;
 ghost use mathlib.Core.Bool.{cond};
 ghost use mathlib.Core.Path.{_≡_};
 ghost use Prim.Native.Nat.{_+_, _-_, _≤_, _<_};
 ghost use lib.Dec.{eqb};
 ghost use lib.ListN.{length};
+ghost use Rattle.model.specs.Bytes.{part, contains};
 ghost use Rattle.text_marks.specs.Barred.{barred};
 ghost use Rattle.text_marks.specs.Marks.{marksOf, blockMarks};
 
 const BLOCK: usize = 64;
+
+// Whether a byte stands in a whole block. By `block_holds` of 64 bytes the marks below would not be compiled to vector code.
+fn whole_holds(text: &[u8], byte: u8, at: usize) -> bool
+    requires { ⌜ at + 64 ≤ length (now text) ⌝ }
+    ensures { λ r. ⌜ r ≡ contains byte (part (now (text .entry)) at 64) ⌝ }
+{
+    let mut found = false;
+    let mut i = 0;
+    while i < BLOCK {
+        if text[at + i] == byte {
+            found = true;
+        }
+        i += 1;
+    }
+    found
+}
 
 fn weight(b: u8, byte: u8, value: u64) -> u64
     ensures { λ r. ⌜ (r ≡ cond (eqb b byte) value 0) × (r ≤ value) ⌝ }
@@ -51,7 +67,7 @@ fn byte_marks(text: &[u8], byte: u8, at: usize) -> u64
     requires { ⌜ at + 64 ≤ length (now text) ⌝ }
     ensures { λ r. ⌜ r ≡ marksOf (λ x. eqb x byte) (now (text .entry)) at 64 ⌝ }
 {
-    if !block_holds(text, byte, at, BLOCK) {
+    if !whole_holds(text, byte, at) {
         return 0;
     }
     full_marks(text, byte, at)

@@ -11,7 +11,7 @@ returns : tie.Need-returns
 returns c =
     let start = c .before .before .before in
     let a = start .args in
-    let holds = c .before .block-holds in
+    let holds = c .before .whole-holds in
     sym (marks-none (a .byte) (now (a .text)) (a .at) 64 (start .pre) (sym (holds .ensures) ∙ not-true (holds .result) (c .if1 .taken)))
 
 pub byte-marks-spec : {M : Type 1} → statement M
