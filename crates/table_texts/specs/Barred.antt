@@ -34,7 +34,7 @@ firstBarred names records text count = foundOr count (find (λ k. recordBarred n
 
 -- so few records that they are read one by one as they come: names only over a short text
 unfoldable pub fewRecords : Bool → List ℕ → ℕ → Bool
-fewRecords names text count = cond names (ltb count 16 && ltb (length text) (4 * count + 24)) (ltb count 4)
+fewRecords names text count = cond names (ltb count 16 && ltb (length text) (4 * count + 24)) (ltb count 10)
 
 -- how many records, from the first on, are known to hold no barred byte
 unfoldable pub sureRecords : Bool → List ℕ → List ℕ → ℕ → ℕ

@@ -186,7 +186,7 @@ fn few_records(text: &[u8], count: usize, names: bool) -> bool
     ensures { λ r. ⌜ r ≡ fewRecords names (now (text .entry)) count ⌝ }
 {
     if !names {
-        return count < 4;
+        return count < 10;
     }
     if 16 <= count {
         return false;

@@ -280,7 +280,7 @@ fn crowded(dice: &mut Dice) -> Draft {
             long_name(dice, length)
         })
         .collect();
-    for _ in 0..dice.from(10, 80) {
+    for _ in 0..dice.from(10, 40) {
         let directory = draft.directory(Some(top));
         for name in &names {
             draft.name(directory, name, file);
