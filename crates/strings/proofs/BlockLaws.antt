@@ -115,7 +115,8 @@ module _ (width : ℕ) (s t : List ℕ) (hs : Bytes s) (ht : Bytes t) (at : ℕ)
           let l = ltb-false (bigEndian width s at) (bigEndian width t at) e in
           let h : bigEndian width t at < bigEndian width s at = ⊎-elim (λ (q : bigEndian width t at ≡ bigEndian width s at). absurd (other (sym q))) (λ q. q) (eq-or-lt-of-le l) in
           let r = big-lower t s ht hs width at h in
-          before-higher s t (r .far) (λ i k. ⊎-elim (λ (q : i < at). known i q) (λ (q : at ≤ i). sym (r .alike i q k)) (below-or i at)) (omega (arith, r .below)) (omega (arith, r .below)) (r .less)
+          before-higher s t (r .far)
+          (λ i k. ⊎-elim (λ (q : i < at). known i q) (λ (q : at ≤ i). sym (r .alike i q k)) (below-or i at)) (omega (arith, r .below)) (omega (arith, r .below)) (r .less)
 
 -- where the shorter string begins the longer one their lengths decide
 pub before-begun : (s t : List ℕ) (n : ℕ) → SameTo s t n → n ≤ length s → n ≤ length t → (n < length s → length t ≡ n)

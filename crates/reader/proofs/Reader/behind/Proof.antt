@@ -82,7 +82,8 @@ module _ {M : Type 1} (𝓤 : URA M) (H : Heap 𝓤) (A : Atoms 𝓤) (W : Given
   asked fits =
       qed W ((‵ (flft κ q) ⊛ ‵ ftrue) ∷ ‵ (owns (B (κ, tt) ∷ []) (d, tt) (mach ∷ [], tt)) ∷ []) ∵
       move ! (1 ∷ []) $ fsplit ! $ move ! (1 ∷ []) $ drop ! $ use1 W (‵ (Fields κ d) ⊛ ‵ (Own κ d)) (apart 𝓤 H A W κ d fits) $ split ! $
-      move ! (2 ∷ 0 ∷ []) $ use2 W (raw (NextStart 𝓤 H A mem run .pre to)) (qed W ((‵ (flft κ q) ⊛ ‵ ftrue) ∷ ‵ (Fields κ d) ∷ []) ∵ join ! $ frame ! $ done !) $ frame ! $ done !
+      move ! (2 ∷ 0 ∷ []) $ use2 W (raw (NextStart 𝓤 H A mem run .pre to))
+      (qed W ((‵ (flft κ q) ⊛ ‵ ftrue) ∷ ‵ (Fields κ d) ∷ []) ∵ join ! $ frame ! $ done !) $ frame ! $ done !
 
   -- of the callee's `ensured`, the clause alone: it has no `&mut`, so what is said of last values is dropped
   said : (n : ℕ) → ent 𝓤 (ensured 𝓤 H A starts.ended (starts.clauses 𝓤 H A mem run) (κ, tt) (d .text, (d .at, tt)) tt n) (fact 𝓤 (n ≡ found))

@@ -81,7 +81,8 @@ module _ {M : Type 1} (𝓤 : URA M) (H : Heap 𝓤) (A : Atoms 𝓤) (W : Given
   asked fits =
       qed W ((‵ (flft κ q) ⊛ ‵ ftrue) ∷ ‵ (owns (B (κ, tt) ∷ []) (d, tt) (mach ∷ [], tt)) ∷ []) ∵
       move ! (1 ∷ []) $ fsplit ! $ move ! (1 ∷ []) $ drop ! $ use1 W (‵ (Fields κ d) ⊛ ‵ (Own κ d)) (apart 𝓤 H A W κ d fits) $ split ! $
-      move ! (2 ∷ 0 ∷ []) $ use2 W (raw (RestAt 𝓤 H A mem run .pre to)) (qed W ((‵ (flft κ q) ⊛ ‵ ftrue) ∷ ‵ (Fields κ d) ∷ []) ∵ says ! ok $ frame ! $ done !) $ frame ! $ done !
+      move ! (2 ∷ 0 ∷ []) $ use2 W (raw (RestAt 𝓤 H A mem run .pre to))
+      (qed W ((‵ (flft κ q) ⊛ ‵ ftrue) ∷ ‵ (Fields κ d) ∷ []) ∵ says ! ok $ frame ! $ done !) $ frame ! $ done !
 
   -- of the callee's `ensured`, the clause alone: it has no `&mut`, so what is said of last values is dropped
   said : (r : RefT (List ℕ)) → ent 𝓤 (ensured 𝓤 H A rests.ended (rests.clauses 𝓤 H A mem run) (κ, tt) (d .text, (d .at, tt)) tt r) (fact 𝓤 (now r ≡ found))
