@@ -12,6 +12,7 @@ use open_how::HowRead;
 use open_how::read_how;
 use parts::records::Counts;
 ghost use mathlib.Core.Path.{_≡_};
+ghost use Rattle.model.specs.Resolve.{callOf};
 ghost use Rattle.model.specs.TableCheck.{tableCheck};
 ghost use Rattle.model.specs.declared.Verdict.the-variants.{Accepted};
 ghost use Rattle.image.specs.Counts.{Counted};
@@ -26,7 +27,7 @@ pub enum CallRead {
 // The checks of a call over an accepted table: open_how, path, handle.
 pub fn check_call(image: &[u8], c: Counts, h: Handle, path: &[u8], how: &[u8]) -> CallRead
     requires { ⌜ Counted (now image) c × (tableCheck (now image) ≡ Accepted) ⌝ }
-    ensures { λ r. ⌜ r ≡ callRead (now (image .entry)) h (now (path .entry)) (now (how .entry)) ⌝ }
+    ensures { λ r. ⌜ r ≡ callRead (now (image .entry)) (callOf h (now (path .entry)) (now (how .entry))) ⌝ }
 {
     let fields = match read_how(how) {
         HowRead::Fields(f) => f,

@@ -2,6 +2,7 @@
 use checks::Check;
 use checks::refuse;
 use model::Errno;
+use model::MOST_TEXT;
 use strings::holds_byte;
 ghost use mathlib.Core.Path.{_≡_};
 ghost use Rattle.model.specs.Path.{pathRefused};
@@ -11,7 +12,7 @@ ghost use Rattle.checks.specs.Checks.{checkOf};
 pub fn check_path(path: &[u8]) -> Check
     ensures { λ r. ⌜ r ≡ checkOf (pathRefused (now (path .entry))) ⌝ }
 {
-    if 4095 < path.len() {
+    if MOST_TEXT < path.len() {
         return refuse(Errno::Enametoolong);
     }
     if path.len() == 0 {

@@ -1,5 +1,6 @@
 // What a check before the walk answers.
 use model::Errno;
+use model::NO_DETAIL;
 use model::Progress;
 use model::Refusal;
 ghost use mathlib.Core.Path.{_≡_};
@@ -11,13 +12,13 @@ pub enum Check {
     Refused(Refusal),
 }
 
-// Both counts are 0 before the walk, and the detail is 255 except for unknown bits.
+// Both counts are 0 before the walk, and only an unknown bit has a detail.
 pub fn refuse(errno: Errno) -> Check
     ensures { λ r. ⌜ r ≡ Check.Refused (refusal errno notWalked) ⌝ }
 {
     Check::Refused(Refusal {
         errno,
-        detail: 255,
+        detail: NO_DETAIL,
         progress: Progress {
             components: 0,
             links: 0,

@@ -1,11 +1,9 @@
 -- One component under restrictions: what the definitions' step comes to once the restrictions have read its events.
 use Prim.Native.Nat.{ℕ}
 use mathlib.Core.Bool.{Bool, cond}
-use mathlib.Core.List.{List}
 use mathlib.Core.Option.{Option, none, some}
 use mathlib.Core.Path.{_≡_}
 use lib.Dec.{ltb}
-use Rattle.model.specs.Bytes.{sameBytes, ascii}
 use Rattle.model.specs.Trace.{Restrictions, forbidAny}
 use Rattle.model.specs.Walk.{Request, Move, stayAt, climb, atTop, Landing, outside, target, reading, Step, fail, go, follow}
 use Rattle.model.specs.declared.Place.{Place}
@@ -51,7 +49,3 @@ upFrom a p = cond (atTop a p) (stayAt p) (climb (a .tree) p)
 -- the kind of a magic link, or of a symbolic one
 abbrev pub linkKind : Bool → ℕ
 linkKind magic = cond magic 4 3
-
--- "." is 1, ".." is 2, any other name 0
-abbrev pub dotsOf : List ℕ → ℕ
-dotsOf s = cond (sameBytes s (ascii ".")) 1 (cond (sameBytes s (ascii "..")) 2 0)

@@ -8,10 +8,12 @@ use crate::moves::go_up;
 use image::records::entry_node;
 use image::records::node_kind;
 use model::Errno;
+use model::MOST_NAME;
 use model::Place;
 use parts::records::Counts;
 use parts::search::Search;
 use request::Request;
+use strings::dots;
 use tree::find_entry;
 ghost use mathlib.Core.Bool.{true};
 ghost use mathlib.Core.Path.{_≡_};
@@ -20,7 +22,7 @@ ghost use Rattle.model.specs.Tree.{treeOf, isDirectory};
 ghost use Rattle.model.specs.Walk.{stepTo, byName, oneComponent};
 ghost use Rattle.laws.specs.Inside.{Inside};
 ghost use Rattle.request.specs.Requests.{requestFor, restrictionsFor};
-ghost use Rattle.component.specs.Outcomes.{outcome, dotsOf};
+ghost use Rattle.component.specs.Outcomes.{outcome};
 ghost use Rattle.request.specs.Walking.{Walking};
 
 // Where one component leads: the walk stops with an error, goes on from a place, goes on from the target of a magic link, or reads
@@ -72,7 +74,7 @@ fn by_name(
     requires { ⌜ Walking (now image) c k × Inside (treeOf (now image)) p × (isDirectory (treeOf (now image)) (p .node) ≡ true) ⌝ }
     ensures { λ r. ⌜ r ≡ outcome (restrictionsFor k) links (byName (requestFor (now (image .entry)) k) last p (now (name .entry))) ⌝ }
 {
-    if 255 < name.len() {
+    if MOST_NAME < name.len() {
         return Outcome::Stop(Errno::Enametoolong);
     }
     let found = find_entry(image, c, p.node, name);
@@ -80,28 +82,6 @@ fn by_name(
         Search::At(e) => step_to(image, c, k, last, links, p, entry_node(image, c, e)),
         Search::Nowhere => Outcome::Stop(Errno::Enoent),
     }
-}
-
-// 1 for ".", 2 for "..", 0 for any other.
-fn dots(name: &[u8]) -> usize
-    ensures { λ r. ⌜ r ≡ dotsOf (now (name .entry)) ⌝ }
-{
-    if 2 < name.len() {
-        return 0;
-    }
-    if name.len() == 0 {
-        return 0;
-    }
-    if name[0] != 46 {
-        return 0;
-    }
-    if name.len() == 1 {
-        return 1;
-    }
-    if name[1] != 46 {
-        return 0;
-    }
-    2
 }
 
 // One component, taken at a directory: "." stays, ".." goes up, any other is a name.

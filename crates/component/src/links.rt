@@ -4,6 +4,7 @@ use image::records::node_count;
 use image::records::node_first;
 use image::texts::body;
 use model::Errno;
+use model::MOST_LINKS;
 use model::Place;
 use open_how::BENEATH;
 use open_how::IN_ROOT;
@@ -34,7 +35,7 @@ fn barred(resolve: u64, m: usize, n: usize) -> bool
     if m == n {
         return false;
     }
-    has(resolve, NO_XDEV)
+    has(NO_XDEV, resolve)
 }
 
 // Events Link and Magic, then the target; under IN_ROOT it is refused.
@@ -42,23 +43,23 @@ fn follow_magic(image: &[u8], k: Request, p: Place, n: usize) -> Outcome
     requires { ⌜ Sized (now image) × (n < treeOf (now image) .nodes) ⌝ }
     ensures { λ r. ⌜ r ≡ unlimited (restrictionsFor k) (magicLink (requestFor (now (image .entry)) k) p n) ⌝ }
 {
-    if has(k.resolve, NO_SYMLINKS) {
+    if has(NO_SYMLINKS, k.resolve) {
         return Outcome::Stop(Errno::Eloop);
     }
     if k.mark {
         return Outcome::Stop(Errno::Enoent);
     }
-    if has(k.resolve, NO_MAGICLINKS) {
+    if has(NO_MAGICLINKS, k.resolve) {
         return Outcome::Stop(Errno::Eloop);
     }
     let mount = node_first(image, n);
     if barred(k.resolve, mount, p.mount) {
         return Outcome::Stop(Errno::Exdev);
     }
-    if has(k.resolve, BENEATH) {
+    if has(BENEATH, k.resolve) {
         return Outcome::Stop(Errno::Exdev);
     }
-    if has(k.resolve, IN_ROOT) {
+    if has(IN_ROOT, k.resolve) {
         return Outcome::Stop(Errno::Exdev);
     }
     let node = node_count(image, n);
@@ -70,7 +71,7 @@ fn follow_symbolic(image: &[u8], c: Counts, k: Request, p: Place, n: usize) -> O
     requires { ⌜ Walking (now image) c k × (n < treeOf (now image) .nodes) × (treeOf (now image) .kind n ≡ 3) ⌝ }
     ensures { λ r. ⌜ r ≡ unlimited (restrictionsFor k) (symbolicLink (requestFor (now (image .entry)) k) p n) ⌝ }
 {
-    if has(k.resolve, NO_SYMLINKS) {
+    if has(NO_SYMLINKS, k.resolve) {
         return Outcome::Stop(Errno::Eloop);
     }
     if !is_absolute(body(image, c, n)) {
@@ -79,7 +80,7 @@ fn follow_symbolic(image: &[u8], c: Counts, k: Request, p: Place, n: usize) -> O
     if k.mark {
         return Outcome::Stop(Errno::Enoent);
     }
-    if has(k.resolve, BENEATH) {
+    if has(BENEATH, k.resolve) {
         return Outcome::Stop(Errno::Exdev);
     }
     let root = k.root;
@@ -103,7 +104,7 @@ fn is_followed(last: bool, follow: bool) -> bool
 fn is_spent(links: usize) -> bool
     ensures { λ r. ⌜ r ≡ not (ltb links 40) ⌝ }
 {
-    40 <= links
+    MOST_LINKS <= links
 }
 
 // A link, magic or symbolic: followed, or a place to stand on.

@@ -40,7 +40,7 @@ pub fn enter(image: &[u8], c: Counts, resolve: u64, p: Place) -> Outcome
     let found = find_mount(image, c, p.mount, p.node);
     match found {
         Search::At(m) => {
-            if has(resolve, NO_XDEV) {
+            if has(NO_XDEV, resolve) {
                 return Outcome::Stop(Errno::Exdev);
             }
             let root = mount_root(image, c, m);
@@ -77,7 +77,7 @@ fn climb(image: &[u8], c: Counts, resolve: u64, p: Place) -> Outcome
     if p.node != mount_root(image, c, p.mount) {
         return to_parent(image, c, resolve, p);
     }
-    if has(resolve, NO_XDEV) {
+    if has(NO_XDEV, resolve) {
         return Outcome::Stop(Errno::Exdev);
     }
     let parent = mount_parent(image, c, p.mount);
@@ -127,7 +127,7 @@ pub fn go_up(image: &[u8], c: Counts, k: Request, p: Place) -> Outcome
     if k.mark {
         return Outcome::Stop(Errno::Enoent);
     }
-    if has(k.resolve, BENEATH) {
+    if has(BENEATH, k.resolve) {
         return Outcome::Stop(Errno::Exdev);
     }
     up_from(image, c, k, p)

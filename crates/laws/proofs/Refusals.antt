@@ -8,14 +8,14 @@ use mathlib.Core.Path.{_≡_, refl}
 use lib.Dec.{eqb, ltb}
 use lib.ListN.{length}
 use borrow.Author.Tests.{ltb-true, ltb-false, not-false}
-use Rattle.model.specs.Bytes.{orElse, contains}
+use Rattle.model.specs.Bytes.{orElse, contains, has}
 use Rattle.model.specs.Tree.{Tree, treeOf, isDirectory, under, covered}
 use Rattle.model.specs.TableCheck.{tableCheck}
 use Rattle.model.specs.Answers.{notWalked, refusal, refuseIf}
-use Rattle.model.specs.OpenHow.{flagsOf, resolveOf, unknownBit, refuseUnknown, tailSet, bothScopes, modeSet, howRefused, knownFlags, knownResolve}
+use Rattle.model.specs.OpenHow.{flagsOf, resolveOf, unknownBit, refuseUnknown, tailSet, lengthRefused, flagsRefused, resolveRefused, scopesRefused, modeSet, modeRefused, howRefused, knownFlags, knownResolve, BENEATH, IN-ROOT}
 use Rattle.model.specs.Path.{pathRefused}
 use Rattle.model.specs.Handles.{placeOf, handleRefused}
-use Rattle.model.specs.Resolve.{refusedTable, refusedBefore}
+use Rattle.model.specs.Resolve.{Call, refusedTable, refusedAfterTable, refusedBefore}
 use Rattle.model.specs.declared.Handle.{Handle}
 use Rattle.model.specs.declared.Refusal.{Refusal}
 use Rattle.model.specs.declared.Errno.{Errno}
@@ -39,24 +39,28 @@ accepted Accepted e = refl
 accepted (Broken rule r) e = absurd (some-not-none (refusal Euclean notWalked) e)
 
 -- a call that no check refuses
-pub record Unrefused (image : List ℕ) (h : Handle) (path how : List ℕ) : Type 0 where
+pub record Unrefused (image : List ℕ) (call : Call) : Type 0 where
   pub table-passes : tableCheck image ≡ Accepted
-  pub how-passes : howRefused how ≡ none
-  pub path-passes : pathRefused path ≡ none
-  pub handle-passes : handleRefused (treeOf image) h ≡ none
+  pub how-passes : howRefused (call .how) ≡ none
+  pub path-passes : pathRefused (call .path) ≡ none
+  pub handle-passes : handleRefused (treeOf image) (call .handle) ≡ none
 
-pub unrefused : (image : List ℕ) (h : Handle) (path how : List ℕ) → refusedBefore image h path how ≡ none → Unrefused image h path how
-unfolding refusedBefore
-unrefused image h path how e =
-    let a = both-none (refusedTable (tableCheck image)) (orElse (howRefused how) (orElse (pathRefused path) (handleRefused (treeOf image) h))) e in
-    let b = both-none (howRefused how) (orElse (pathRefused path) (handleRefused (treeOf image) h)) (a .1) in
-    let c = both-none (pathRefused path) (handleRefused (treeOf image) h) (b .1) in
+pub unrefused : (image : List ℕ) (call : Call) → refusedBefore image call ≡ none → Unrefused image call
+unfolding refusedBefore refusedAfterTable
+unrefused image call e =
+    let a = both-none (refusedTable (tableCheck image)) _ e in
+    let b = both-none (howRefused (call .how)) _ (a .1) in
+    let c = both-none (pathRefused (call .path)) (handleRefused (treeOf image) (call .handle)) (b .1) in
     record { table-passes = accepted (tableCheck image) (a .0); how-passes = b .0; path-passes = c .0; handle-passes = c .1 }
 
 -- it has a resolve,
+pub length-long : (how : List ℕ) → lengthRefused how ≡ none → 24 ≤ length how
+unfolding lengthRefused
+length-long how e = ltb-false _ _ (passes (ltb (length how) 24) Einval _ e .0)
+
 pub how-long : (how : List ℕ) → howRefused how ≡ none → 24 ≤ length how
 unfolding howRefused
-how-long how e = ltb-false _ _ (passes (ltb (length how) 24) Einval _ e .0)
+how-long how e = length-long how (both-none (lengthRefused how) _ e .0)
 
 -- a path of at most 4,095 bytes,
 pub path-short : (path : List ℕ) → pathRefused path ≡ none → length path ≤ 4095
@@ -79,9 +83,9 @@ if-uncounted : (t : Bool) (e : Errno) (later : Option Refusal) → Uncounted lat
 if-uncounted true e later h = refl
 if-uncounted false e later h = h
 
-unknown-uncounted : (base : ℕ) (o : Option ℕ) (later : Option Refusal) → Uncounted later → Uncounted (refuseUnknown base o later)
-unknown-uncounted base none later h = h
-unknown-uncounted base (some b) later h = refl
+unknown-uncounted : (base : ℕ) (o : Option ℕ) → Uncounted (refuseUnknown base o)
+unknown-uncounted base none = tt
+unknown-uncounted base (some b) = refl
 
 or-uncounted : (o later : Option Refusal) → Uncounted o → Uncounted later → Uncounted (orElse o later)
 or-uncounted none later h k = k
@@ -91,15 +95,20 @@ table-uncounted : (v : Verdict) → Uncounted (refusedTable v)
 table-uncounted Accepted = tt
 table-uncounted (Broken rule r) = refl
 
+length-uncounted : (how : List ℕ) → Uncounted (lengthRefused how)
+unfolding lengthRefused
+length-uncounted how =
+    if-uncounted (ltb (length how) 24) Einval _
+    (if-uncounted (ltb 4096 (length how)) E2big _ (if-uncounted (tailSet how) E2big none tt))
+
 how-uncounted : (how : List ℕ) → Uncounted (howRefused how)
 unfolding howRefused
 how-uncounted how =
-    if-uncounted (ltb (length how) 24) Einval _
-    (if-uncounted (ltb 4096 (length how)) E2big _
-    (if-uncounted (tailSet how) E2big _
-    (unknown-uncounted 0 (unknownBit knownFlags (flagsOf how)) _
-    (unknown-uncounted 64 (unknownBit knownResolve (resolveOf how)) _
-    (if-uncounted (bothScopes how) Einval _ (if-uncounted (modeSet how) Einval none tt))))))
+    or-uncounted (lengthRefused how) _ (length-uncounted how)
+    (or-uncounted (flagsRefused (flagsOf how)) _ (unknown-uncounted 0 (unknownBit knownFlags (flagsOf how)))
+    (or-uncounted (resolveRefused (resolveOf how)) _ (unknown-uncounted 64 (unknownBit knownResolve (resolveOf how)))
+    (or-uncounted (scopesRefused (resolveOf how)) (modeRefused how) (if-uncounted (has BENEATH (resolveOf how) && has IN-ROOT (resolveOf how)) Einval none tt)
+    (if-uncounted (modeSet how) Einval none tt))))
 
 path-uncounted : (path : List ℕ) → Uncounted (pathRefused path)
 unfolding pathRefused
@@ -114,9 +123,9 @@ handle-uncounted t h =
     (if-uncounted (not (isDirectory t (h .node))) Enotdir _
     (if-uncounted (not (under t (h .node) (t .mountRoot (h .mount))) || covered t (placeOf h)) Ebadf none tt))
 
-pub before-uncounted : (image : List ℕ) (h : Handle) (path how : List ℕ) → Uncounted (refusedBefore image h path how)
-unfolding refusedBefore
-before-uncounted image h path how =
+pub before-uncounted : (image : List ℕ) (call : Call) → Uncounted (refusedBefore image call)
+unfolding refusedBefore refusedAfterTable
+before-uncounted image call =
     or-uncounted (refusedTable (tableCheck image)) _ (table-uncounted (tableCheck image))
-    (or-uncounted (howRefused how) _ (how-uncounted how)
-    (or-uncounted (pathRefused path) _ (path-uncounted path) (handle-uncounted (treeOf image) h)))
+    (or-uncounted (howRefused (call .how)) _ (how-uncounted (call .how))
+    (or-uncounted (pathRefused (call .path)) _ (path-uncounted (call .path)) (handle-uncounted (treeOf image) (call .handle))))

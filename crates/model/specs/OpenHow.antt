@@ -5,7 +5,7 @@ use mathlib.Core.List.{List}
 use mathlib.Core.Option.{Option, none, some}
 use lib.Dec.{eqb, ltb}
 use lib.ListN.{length, getD}
-use Rattle.model.specs.Bytes.{field, has, find, isSome}
+use Rattle.model.specs.Bytes.{field, has, find, isSome, orElse}
 use Rattle.model.specs.Answers.{refuseIf, unknown}
 use Rattle.model.specs.declared.Refusal.{Refusal}
 use Rattle.model.specs.declared.Errno.the-variants.{Einval, E2big}
@@ -62,29 +62,42 @@ unfoldable pub unknownBit : ℕ → ℕ → Option ℕ
 unknownBit known x = find (λ b. has (2 ^ b) x && not (has (2 ^ b) known)) 0 64
 
 -- "detail b for flags bit b, 64 + b for resolve bit b"
-abbrev pub refuseUnknown : ℕ → Option ℕ → Option Refusal → Option Refusal
-refuseUnknown base none later = later
-refuseUnknown base (some b) later = some (unknown (base + b))
+abbrev pub refuseUnknown : ℕ → Option ℕ → Option Refusal
+refuseUnknown base none = none
+refuseUnknown base (some b) = some (unknown (base + b))
+
+abbrev pub flagsRefused : ℕ → Option Refusal
+flagsRefused flags = refuseUnknown 0 (unknownBit knownFlags flags)
+
+abbrev pub resolveRefused : ℕ → Option Refusal
+resolveRefused resolve = refuseUnknown 64 (unknownBit knownResolve resolve)
 
 -- "over 24 with a byte after the 24th not zero"
 unfoldable pub tailSet : List ℕ → Bool
 tailSet how = isSome (find (λ i. not (eqb (getD how i 0) 0)) 24 (length how - 24))
 
+-- "open_how length (too short, too long, tail)"
+unfoldable pub lengthRefused : List ℕ → Option Refusal
+lengthRefused how =
+    refuseIf (ltb (length how) 24) Einval
+    (refuseIf (ltb 4096 (length how)) E2big
+    (refuseIf (tailSet how) E2big none))
+
 -- "both BENEATH and IN_ROOT"
-unfoldable pub bothScopes : List ℕ → Bool
-bothScopes how = has BENEATH (resolveOf how) && has IN-ROOT (resolveOf how)
+abbrev pub scopesRefused : ℕ → Option Refusal
+scopesRefused resolve = refuseIf (has BENEATH resolve && has IN-ROOT resolve) Einval none
 
 -- "mode or padding not zero"
 unfoldable pub modeSet : List ℕ → Bool
 modeSet how = not (eqb (modeOf how) 0) || not (eqb (paddingOf how) 0)
 
+abbrev pub modeRefused : List ℕ → Option Refusal
+modeRefused how = refuseIf (modeSet how) Einval none
+
 -- "Order: .. open_how length (too short, too long, tail), flags, resolve, both scopes, mode, .."
 unfoldable pub howRefused : List ℕ → Option Refusal
 howRefused how =
-    refuseIf (ltb (length how) 24) Einval
-    (refuseIf (ltb 4096 (length how)) E2big
-    (refuseIf (tailSet how) E2big
-    (refuseUnknown 0 (unknownBit knownFlags (flagsOf how))
-    (refuseUnknown 64 (unknownBit knownResolve (resolveOf how))
-    (refuseIf (bothScopes how) Einval
-    (refuseIf (modeSet how) Einval none))))))
+    orElse (lengthRefused how)
+    (orElse (flagsRefused (flagsOf how))
+    (orElse (resolveRefused (resolveOf how))
+    (orElse (scopesRefused (resolveOf how)) (modeRefused how))))

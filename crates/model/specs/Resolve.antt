@@ -37,9 +37,11 @@ refusedTable (Broken rule r) = some (refusal Euclean notWalked)
 
 -- "Order: table, open_how length .., flags, resolve, both scopes, mode, path too long, path empty, zero byte, handle, walk."
 -- "It is checked for every path." of the handle
-unfoldable pub refusedBefore : List ℕ → Handle → List ℕ → List ℕ → Option Refusal
-refusedBefore image h path how =
-    orElse (refusedTable (tableCheck image)) (orElse (howRefused how) (orElse (pathRefused path) (handleRefused (treeOf image) h)))
+unfoldable pub refusedAfterTable : List ℕ → Call → Option Refusal
+refusedAfterTable image call = orElse (howRefused (call .how)) (orElse (pathRefused (call .path)) (handleRefused (treeOf image) (call .handle)))
+
+unfoldable pub refusedBefore : List ℕ → Call → Option Refusal
+refusedBefore image call = orElse (refusedTable (tableCheck image)) (refusedAfterTable image call)
 
 -- the restrictions that a mark and the bits of resolve set, and so those that a call sets
 abbrev pub restrictionsBy : Bool → ℕ → Restrictions
@@ -79,9 +81,9 @@ unlessRefused (some r) a = Refused r
 -- What the resolver answers: the refusal before the walk, else the walk's answer under the restrictions set.
 unfoldable pub resolve : List ℕ → Call → Answer
 resolve image call =
-    unlessRefused (refusedBefore image (call .handle) (call .path) (call .how)) (answer (restrictions call) (traceOf image call))
+    unlessRefused (refusedBefore image call) (answer (restrictions call) (traceOf image call))
 
 -- the places that a call's walk stands on; a call refused before the walk stands on none
 unfoldable pub placesOf : List ℕ → Call → List Place
 placesOf image call =
-    ifNone (refusedBefore image (call .handle) (call .path) (call .how)) (stoodOn (restrictions call) (traceOf image call))
+    ifNone (refusedBefore image call) (stoodOn (restrictions call) (traceOf image call))

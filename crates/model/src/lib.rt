@@ -1,6 +1,18 @@
 // The types that the definitions, the promises and the code share. The definitions are in specs/, the theorems over them in
 // proofs/.
 
+// The most bytes that a name has,
+pub const MOST_NAME: usize = 255;
+
+// and a text, be it the given path or a link's body;
+pub const MOST_TEXT: usize = 4095;
+
+// the most links that a walk follows.
+pub const MOST_LINKS: usize = 40;
+
+// The detail of an answer that names no unknown bit.
+pub const NO_DETAIL: u32 = 255;
+
 // A place, in document 01's sense: a node as it is seen through one mount.
 pub struct Place {
     pub mount: usize,
@@ -46,7 +58,7 @@ pub enum Errno {
     Exdev,
 }
 
-// What a refusal carries: detail is an unknown bit's number, else 255.
+// What a refusal carries: detail is an unknown bit's number, else NO_DETAIL.
 pub struct Refusal {
     pub errno: Errno,
     pub detail: u32,

@@ -2,22 +2,11 @@
 use Prim.Native.Nat.{ℕ}
 use mathlib.Core.List.{List}
 use mathlib.Core.Option.{Option, none, some}
-use lib.Dec.{ltb}
-use lib.ListN.{length}
-use Rattle.model.specs.Answers.{refuseIf}
-use Rattle.model.specs.OpenHow.{flagsOf, resolveOf, tailSet, howRefused}
+use Rattle.model.specs.OpenHow.{flagsOf, resolveOf, howRefused}
 use Rattle.model.specs.declared.Refusal.{Refusal}
-use Rattle.model.specs.declared.Errno.the-variants.{Einval, E2big}
 use Rattle.open_how.specs.declared.How.{How}
 use Rattle.open_how.specs.declared.HowRead.{HowRead}
 use Rattle.open_how.specs.declared.HowRead.the-variants.{Fields, Refused}
-
--- "open_how length (too short, too long, tail)"
-unfoldable pub lengthRefused : List ℕ → Option Refusal
-lengthRefused how =
-    refuseIf (ltb (length how) 24) Einval
-    (refuseIf (ltb 4096 (length how)) E2big
-    (refuseIf (tailSet how) E2big none))
 
 -- "open_how (000): u64 flags, u16 mode, 6 padding bytes, u64 resolve.": the two fields that a walk goes by
 abbrev pub fieldsOf : List ℕ → How

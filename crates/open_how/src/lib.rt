@@ -5,17 +5,13 @@ use fields::u64_at;
 use model::Errno;
 use model::Progress;
 use model::Refusal;
-ghost use mathlib.Core.Bool.{_&&_};
-ghost use mathlib.Core.Option.{none};
 ghost use mathlib.Core.Path.{_≡_};
 ghost use Prim.Native.Nat.{_≤_, _<_};
 ghost use lib.ListN.{length};
 ghost use Rattle.model.specs.Bytes.{has};
-ghost use Rattle.model.specs.Answers.{refuseIf};
-ghost use Rattle.model.specs.OpenHow.{unknownBit, refuseUnknown, tailSet, modeSet, BENEATH, IN-ROOT};
-ghost use Rattle.model.specs.declared.Errno.the-variants.{Einval};
+ghost use Rattle.model.specs.OpenHow.{unknownBit, refuseUnknown, tailSet, lengthRefused, scopesRefused, modeRefused};
 ghost use Rattle.checks.specs.Checks.{checkOf};
-ghost use Rattle.open_how.specs.Fields.{lengthRefused, readHow};
+ghost use Rattle.open_how.specs.Fields.{readHow};
 
 pub const O_DIRECTORY: u64 = 0x10000;
 
@@ -41,12 +37,17 @@ pub const IN_ROOT: u64 = 16;
 pub const KNOWN_RESOLVE: u64 = NO_XDEV + NO_MAGICLINKS + NO_SYMLINKS + BENEATH + IN_ROOT;
 
 // Whether a number has the bit whose value is given.
-pub fn has(x: u64, bit: u64) -> bool
+pub fn has(bit: u64, x: u64) -> bool
     requires { ⌜ 0 < bit ⌝ }
     ensures { λ r. ⌜ r ≡ has bit x ⌝ }
 {
     x / bit % 2 == 1
 }
+
+// The bytes of an open_how's fields, and the most that one has.
+const FIELDS: usize = 24;
+
+const MOST_HOW: usize = 4096;
 
 // The fields that a walk goes by: mode is 0 where it walks.
 pub struct How {
@@ -65,7 +66,7 @@ fn tail_set(how: &[u8]) -> bool
     ensures { λ r. ⌜ r ≡ tailSet (now (how .entry)) ⌝ }
 {
     let mut set = false;
-    let mut i = 24;
+    let mut i = FIELDS;
     while i < how.len() {
         if how[i] != 0 {
             set = true;
@@ -79,10 +80,10 @@ fn tail_set(how: &[u8]) -> bool
 fn check_length(how: &[u8]) -> Check
     ensures { λ r. ⌜ r ≡ checkOf (lengthRefused (now (how .entry))) ⌝ }
 {
-    if how.len() < 24 {
+    if how.len() < FIELDS {
         return refuse(Errno::Einval);
     }
-    if 4096 < how.len() {
+    if MOST_HOW < how.len() {
         return refuse(Errno::E2big);
     }
     if tail_set(how) {
@@ -94,7 +95,7 @@ fn check_length(how: &[u8]) -> Check
 // An unknown bit is named by its number, lowest first: b for bit b of flags, 64 + b for bit b of resolve. The base is 0 or 64.
 fn check_bits(x: u64, known: u64, base: u32) -> Check
     requires { ⌜ base ≤ 64 ⌝ }
-    ensures { λ r. ⌜ r ≡ checkOf (refuseUnknown base (unknownBit known x) none) ⌝ }
+    ensures { λ r. ⌜ r ≡ checkOf (refuseUnknown base (unknownBit known x)) ⌝ }
 {
     let unknown = x & !known;
     if unknown == 0 {
@@ -113,12 +114,12 @@ fn check_bits(x: u64, known: u64, base: u32) -> Check
 
 // Both BENEATH and IN_ROOT.
 fn check_scopes(resolve: u64) -> Check
-    ensures { λ r. ⌜ r ≡ checkOf (refuseIf (has BENEATH resolve && has IN-ROOT resolve) Einval none) ⌝ }
+    ensures { λ r. ⌜ r ≡ checkOf (scopesRefused resolve) ⌝ }
 {
-    if !has(resolve, BENEATH) {
+    if !has(BENEATH, resolve) {
         return Check::Passes;
     }
-    if !has(resolve, IN_ROOT) {
+    if !has(IN_ROOT, resolve) {
         return Check::Passes;
     }
     refuse(Errno::Einval)
@@ -127,7 +128,7 @@ fn check_scopes(resolve: u64) -> Check
 // Mode or padding not zero: the eight bytes between flags and resolve, read as one number.
 fn check_mode(how: &[u8]) -> Check
     requires { ⌜ 24 ≤ length (now how) ⌝ }
-    ensures { λ r. ⌜ r ≡ checkOf (refuseIf (modeSet (now (how .entry))) Einval none) ⌝ }
+    ensures { λ r. ⌜ r ≡ checkOf (modeRefused (now (how .entry))) ⌝ }
 {
     if u64_at(how, 8) != 0 {
         return refuse(Errno::Einval);

@@ -29,7 +29,7 @@ pub struct Request {
 fn follows_last(flags: u64, slash: bool) -> bool
     ensures { λ r. ⌜ r ≡ not (has O-NOFOLLOW flags) || slash ⌝ }
 {
-    if has(flags, O_NOFOLLOW) {
+    if has(O_NOFOLLOW, flags) {
         return slash;
     }
     true
@@ -48,8 +48,8 @@ pub fn request_of(image: &[u8], c: Counts, h: Handle, f: How, slash: bool) -> Re
         node: h.node,
     };
     let follow = follows_last(flags, slash);
-    let opath = has(flags, O_PATH);
-    if has(resolve, IN_ROOT) {
+    let opath = has(O_PATH, flags);
+    if has(IN_ROOT, resolve) {
         return Request {
             handle,
             root: handle,

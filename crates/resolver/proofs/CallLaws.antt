@@ -46,26 +46,26 @@ refused-some (some q) f r e = cc
 
 module _ (s : List ℕ) (h : Handle) (path how : List ℕ) where
   -- what the call's check read, over an accepted table
-  module _ (accepted : tableCheck s ≡ Accepted) (read : CallRead) (is : read ≡ callRead s h path how) where
-    pub read-walks : (f : How) → read ≡ Walks f → (refusedBefore s h path how ≡ none) × (fieldsOf how ≡ f)
-    read-walks f told = walks-none (refusedBefore s h path how) (fieldsOf how) f (sym (accepted-call s h path how accepted) ∙ sym is ∙ told)
+  module _ (accepted : tableCheck s ≡ Accepted) (read : CallRead) (is : read ≡ callRead s (callOf h path how)) where
+    pub read-walks : (f : How) → read ≡ Walks f → (refusedBefore s (callOf h path how) ≡ none) × (fieldsOf how ≡ f)
+    read-walks f told = walks-none (refusedBefore s (callOf h path how)) (fieldsOf how) f (sym (accepted-call s (callOf h path how) accepted) ∙ sym is ∙ told)
 
-    pub read-refused : (r : Refusal) → read ≡ CallRefused r → refusedBefore s h path how ≡ some r
-    read-refused r told = refused-some (refusedBefore s h path how) (fieldsOf how) r (sym (accepted-call s h path how accepted) ∙ sym is ∙ told)
+    pub read-refused : (r : Refusal) → read ≡ CallRefused r → refusedBefore s (callOf h path how) ≡ some r
+    read-refused r told = refused-some (refusedBefore s (callOf h path how)) (fieldsOf how) r (sym (accepted-call s (callOf h path how) accepted) ∙ sym is ∙ told)
 
   -- the walk of what the call asks is the definition's answer
-  asked : refusedBefore s h path how ≡ none
+  asked : refusedBefore s (callOf h path how) ≡ none
       → let k = numbersBy s h (fieldsOf how) (endsInSlash path) in
       answer (restrictionsFor k) (walkPath (requestFor s k) (has O-DIRECTORY (flagsOf how) || endsInSlash path) path) ≡ resolve s (callOf h path how)
   unfolding resolve traceOf requestOf restrictions
   asked e = rw e
 
-  pub refused-call : (r : Refusal) → refusedBefore s h path how ≡ some r → Refused r ≡ resolve s (callOf h path how)
+  pub refused-call : (r : Refusal) → refusedBefore s (callOf h path how) ≡ some r → Refused r ≡ resolve s (callOf h path how)
   unfolding resolve
   refused-call r e = rw e
 
   -- the same from what the code has in hand
-  pub walked : (f : How) (slash : Bool) (k : Request) (directory : Bool) → (refusedBefore s h path how ≡ none) × (fieldsOf how ≡ f)
+  pub walked : (f : How) (slash : Bool) (k : Request) (directory : Bool) → (refusedBefore s (callOf h path how) ≡ none) × (fieldsOf how ≡ f)
       → slash ≡ endsInSlash path → k ≡ numbersBy s h f slash → directory ≡ has O-DIRECTORY (f .flags) || slash
       → answer (restrictionsFor k) (walkPath (requestFor s k) directory path) ≡ resolve s (callOf h path how)
   walked f slash k directory (none-before, fields) slash-is k-is directory-is =
@@ -75,10 +75,10 @@ module _ (s : List ℕ) (h : Handle) (path how : List ℕ) where
       ∙ asked none-before
 
   -- and what the walk rests on
-  pub walking-of : (c : Counts) (f : How) (slash : Bool) (k : Request) → Reading s c → refusedBefore s h path how ≡ none → k ≡ numbersBy s h f slash
+  pub walking-of : (c : Counts) (f : How) (slash : Bool) (k : Request) → Reading s c → refusedBefore s (callOf h path how) ≡ none → k ≡ numbersBy s h f slash
       → Walking s c k × Inside (treeOf s) (k .handle) × (length path ≤ 4095)
   walking-of c f slash k reading none-before k-is =
-      let un = unrefused s h path how none-before in
+      let un = unrefused s (callOf h path how) none-before in
       let sound = accepted-sound s (reading .accepted) in
       let handle = handle-inside (treeOf s) h (un .handle-passes) in
       let root = either-root-inside (treeOf s) sound (placeOf h) handle (has IN-ROOT (f .resolve)) in (

@@ -5,6 +5,7 @@ use image::records::read_counts;
 use model::Answer;
 use model::Errno;
 use model::Handle;
+use model::MOST_LINKS;
 use model::Place;
 use model::Progress;
 use model::State;
@@ -18,6 +19,7 @@ use request::request_of;
 use state::finish;
 use state::stop;
 use table::check;
+use text::GIVEN_PATH;
 use text::ends_in_slash;
 use text::is_absolute;
 use text::skip_slashes;
@@ -67,10 +69,10 @@ fn begin<'a>(
     if start == path.len() {
         return finish(image, c, k, state);
     }
-    let mut stack = [0u32; 40];
+    let mut stack = [0u32; MOST_LINKS];
     let w = Walk {
         state,
-        text: 65535,
+        text: GIVEN_PATH,
         at: start,
         depth: 0,
     };
@@ -93,7 +95,7 @@ fn walk_path<'a>(image: &'a [u8], c: Counts, k: Request, path: &'a [u8], directo
     if k.mark {
         return stop(Errno::Enoent, none);
     }
-    if has(k.resolve, BENEATH) {
+    if has(BENEATH, k.resolve) {
         return stop(Errno::Exdev, none);
     }
     let root = k.root;
@@ -104,7 +106,7 @@ fn walk_path<'a>(image: &'a [u8], c: Counts, k: Request, path: &'a [u8], directo
 fn needs_directory(flags: u64, slash: bool) -> bool
     ensures { λ r. ⌜ r ≡ has O-DIRECTORY flags || slash ⌝ }
 {
-    if has(flags, O_DIRECTORY) {
+    if has(O_DIRECTORY, flags) {
         return true;
     }
     slash

@@ -2,6 +2,7 @@
 use image::records::node_kind;
 use model::Answer;
 use model::Errno;
+use model::NO_DETAIL;
 use model::Place;
 use model::Progress;
 use model::Reached;
@@ -25,7 +26,7 @@ pub fn stop(errno: Errno, progress: Progress) -> Answer
 {
     Answer::Refused(Refusal {
         errno,
-        detail: 255,
+        detail: NO_DETAIL,
         progress,
     })
 }

@@ -1,2 +1,3 @@
 mod BlockLaws
 pub mod PartLaws
+pub mod DotLaws

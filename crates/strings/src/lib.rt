@@ -1,4 +1,4 @@
-// Byte strings: whether one holds a byte, whether two are the same, and which comes first.
+// Byte strings: whether one holds a byte, whether two are the same, which comes first, and which is "." or "..".
 mod blocks;
 
 use crate::blocks::big32_at;
@@ -11,6 +11,7 @@ ghost use mathlib.Core.Path.{_≡_};
 ghost use Prim.Native.Nat.{_≤_, _<_};
 ghost use lib.ListN.{length};
 ghost use Rattle.model.specs.Bytes.{contains, sameBytes, before};
+ghost use Rattle.strings.specs.Dots.{dotsOf};
 
 // No early exit: the loop is then compiled to vector code.
 fn long_holds(s: &[u8], b: u8) -> bool
@@ -133,4 +134,26 @@ pub fn comes_before(a: &[u8], b: &[u8]) -> bool
         return x < y;
     }
     a.len() < b.len()
+}
+
+// 1 for ".", 2 for "..", 0 for any other.
+pub fn dots(name: &[u8]) -> usize
+    ensures { λ r. ⌜ r ≡ dotsOf (now (name .entry)) ⌝ }
+{
+    if 2 < name.len() {
+        return 0;
+    }
+    if name.len() == 0 {
+        return 0;
+    }
+    if name[0] != b'.' {
+        return 0;
+    }
+    if name.len() == 1 {
+        return 1;
+    }
+    if name[1] != b'.' {
+        return 0;
+    }
+    2
 }

@@ -1,15 +1,15 @@
 // An entry's name by itself: where it lies, how long it is, and which bytes it may not be.
+use model::MOST_NAME;
 use parts::records::Counts;
 use parts::records::name_length;
 use parts::records::name_offset;
 use parts::texts::name;
+use strings::dots;
 use text_marks::bytes::short_holds;
-ghost use mathlib.Core.Bool.{true, false, _||_};
+ghost use mathlib.Core.Bool.{true, false};
 ghost use mathlib.Core.List.{[]};
 ghost use mathlib.Core.Path.{_≡_};
-ghost use Prim.Native.Nat.{_≤_, _<_};
-ghost use lib.ListN.{length};
-ghost use Rattle.model.specs.Bytes.{sameBytes, ascii};
+ghost use Prim.Native.Nat.{_<_};
 ghost use Rattle.model.specs.TableCheck.{nameHolds};
 ghost use Rattle.parts.specs.Parts.{entriesTree, EntryRecords};
 ghost use Rattle.text_marks.specs.Barred.{holdsBarred};
@@ -26,26 +26,6 @@ fn holds_forbidden(s: &[u8], clean: bool) -> bool
     }
     short_holds(s)
 }
-
-// "." or "..", of a name that is not empty.
-fn is_dots(s: &[u8]) -> bool
-    requires { ⌜ 1 ≤ length (now s) ⌝ }
-    ensures { λ r. ⌜ r ≡ sameBytes (now (s .entry)) (ascii ".") || sameBytes (now (s .entry)) (ascii "..") ⌝ }
-{
-    if s[0] != b'.' {
-        return false;
-    }
-    if s.len() == 1 {
-        return true;
-    }
-    if s.len() != 2 {
-        return false;
-    }
-    s[1] == b'.'
-}
-
-// The most bytes that a name has.
-const MOST_NAME: usize = 255;
 
 // The names of entries below `sure` are known to have no zero byte and no slash.
 pub fn name_holds(entries: &[u8], text: &[u8], c: Counts, e: usize, sure: usize) -> bool
@@ -66,5 +46,8 @@ pub fn name_holds(entries: &[u8], text: &[u8], c: Counts, e: usize, sure: usize)
     if holds_forbidden(s, e < sure) {
         return false;
     }
-    !is_dots(s)
+    if s[0] != b'.' {
+        return true;
+    }
+    dots(s) == 0
 }

@@ -1,4 +1,5 @@
 // Rule 4 of the table check: node records, one function for each sentence.
+use model::MOST_TEXT;
 use parts::records::Counts;
 use parts::records::node_count;
 use parts::records::node_first;
@@ -46,9 +47,6 @@ fn file_holds(nodes: &[u8], c: Counts, n: usize) -> bool
     node_count(nodes, n) == 0
 }
 
-// The most bytes that a link's body has.
-const MOST_BODY: usize = 4095;
-
 // The bodies of nodes below `sure` are known to have no zero byte.
 fn symlink_holds(nodes: &[u8], text: &[u8], c: Counts, n: usize, sure: usize) -> bool
     requires { ⌜ NodeRecords c (now nodes) × (n < c .nodes) × (kindIn (now nodes) n ≡ 3) × (sure ≡ sureRecords false (now nodes) (now text) (c .nodes)) ⌝ }
@@ -64,7 +62,7 @@ fn symlink_holds(nodes: &[u8], text: &[u8], c: Counts, n: usize, sure: usize) ->
     if count == 0 {
         return false;
     }
-    if MOST_BODY < count {
+    if MOST_TEXT < count {
         return false;
     }
     if n < sure {

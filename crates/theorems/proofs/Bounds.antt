@@ -160,13 +160,13 @@ pub either-root-inside : (t : Tree) → Sound t → (p : Place) → Inside t p �
 either-root-inside t sound p inside b =
     cond-cases (Inside t) b p (rootOf t 0) (λ _. inside) (λ _. root-inside t sound 0 (sound .mounts-hold .some-mount))
 
-resolve-bounded-by : (image : List ℕ) (call : Call) (o : Option Refusal) → refusedBefore image (call .handle) (call .path) (call .how) ≡ o
+resolve-bounded-by : (image : List ℕ) (call : Call) (o : Option Refusal) → refusedBefore image call ≡ o
     → Uncounted o → Bounded (progressOf (unlessRefused o (answer (restrictions call) (traceOf image call))))
 unfolding traceOf requestOf
 resolve-bounded-by image call (some r) e u = subst Bounded (sym u) not-walked-bounded
 resolve-bounded-by image call none e u =
     let tree = treeOf image in
-    let un = unrefused image (call .handle) (call .path) (call .how) e in
+    let un = unrefused image call e in
     let sound = accepted-sound image (un .table-passes) in
     let handle = handle-inside tree (call .handle) (un .handle-passes) in
     let root = either-root-inside tree sound (placeOf (call .handle)) handle (has IN-ROOT (resolveOf (call .how))) in
@@ -178,5 +178,5 @@ resolve-bounded-by image call none e u =
 pub every-walk-bounded : EveryWalk
 unfolding resolve
 every-walk-bounded image call =
-    let before = refusedBefore image (call .handle) (call .path) (call .how) in
-    resolve-bounded-by image call before refl (before-uncounted image (call .handle) (call .path) (call .how))
+    let before = refusedBefore image call in
+    resolve-bounded-by image call before refl (before-uncounted image call)

@@ -15,11 +15,11 @@ use native.Mathlib.Nat.{lt-irrefl, lt-of-le-of-lt}
 use borrow.Author.Tests.{ltb-true, ltb-false}
 use Rattle.model.specs.Bytes.{field, has, isSome}
 use Rattle.model.specs.Tree.{Tree, treeOf}
-use Rattle.model.specs.Answers.{refused}
-use Rattle.model.specs.OpenHow.{flagsOf, modeOf, paddingOf, resolveOf, unknownBit, tailSet, bothScopes, modeSet, howRefused, knownResolve, NO-XDEV, NO-MAGICLINKS, NO-SYMLINKS, BENEATH, IN-ROOT}
+use Rattle.model.specs.Answers.{refused, refuseIf}
+use Rattle.model.specs.OpenHow.{flagsOf, modeOf, paddingOf, resolveOf, unknownBit, tailSet, lengthRefused, scopesRefused, modeSet, howRefused, knownResolve, NO-XDEV, NO-MAGICLINKS, NO-SYMLINKS, BENEATH, IN-ROOT}
 use Rattle.model.specs.Handles.{placeOf, handleRefused}
 use Rattle.model.specs.Trace.{Restriction, mark, beneath, noXdev, noSymlinks, noMagiclinks, Restrictions}
-use Rattle.model.specs.Resolve.{Call, refusedBefore, restrictions, requestOf, traceOf, resolve}
+use Rattle.model.specs.Resolve.{Call, refusedAfterTable, refusedBefore, restrictions, requestOf, traceOf, resolve}
 use Rattle.theorems.specs.Adding.{Added, addedBits, Adds, Meeting, eventsOf, firstForbidden, withBits, withMark, withAdded, OnlyStops, Demand3}
 use Rattle.model.specs.declared.Handle.{Handle}
 use Rattle.model.specs.declared.Progress.{Progress}
@@ -28,6 +28,7 @@ use Rattle.model.specs.declared.Refusal.{Refusal}
 use Rattle.model.specs.declared.Answer.{Answer}
 use Rattle.model.specs.declared.Answer.the-variants.{Found}
 use Rattle.model.specs.declared.Errno.{Errno}
+use Rattle.model.specs.declared.Errno.the-variants.{Einval}
 use Rattle.laws.proofs.ByteLaws.{field-ext, find-ext}
 use Rattle.laws.proofs.Cases.{some-not-none}
 use Rattle.laws.proofs.BitLaws.{has-or, has-or-high, or-low}
@@ -135,12 +136,13 @@ module _ (added : Restrictions) (call call′ : Call) (adds : Adds added call ca
   unfolding unknownBit
   unknown-same = rw (adds .bitsAdded long) (find-ext _ _ 0 64 (λ b l. unknown-kept (resolveOf how) (addedBits added) (bits-of added .5) b))
 
-  scopes-kept : bothScopes how′ ≡ bothScopes how
-  unfolding bothScopes
-  scopes-kept = rw (bit-added 3 (added beneath) (bits-of added .3), in-root-kept) (scopes (added beneath) (has BENEATH (resolveOf how)) (has IN-ROOT (resolveOf how)) scope)
+  scopes-kept : scopesRefused (resolveOf how′) ≡ scopesRefused (resolveOf how)
+  scopes-kept =
+      rw (bit-added 3 (added beneath) (bits-of added .3), in-root-kept)
+      (ap (λ (b : Bool). refuseIf b Einval none) (scopes (added beneath) (has BENEATH (resolveOf how)) (has IN-ROOT (resolveOf how)) scope))
 
   how-kept : howRefused how′ ≡ howRefused how
-  unfolding howRefused
+  unfolding howRefused lengthRefused
   how-kept = rw (adds .sameLength, tail-kept, flags-kept, unknown-same, scopes-kept, mode-kept)
 
 -- the handle's place decides whether it is refused
@@ -154,8 +156,8 @@ module _ (added : Restrictions) (image : List ℕ) (call call′ : Call) (adds :
   how-same-by true e = ap howRefused (adds .short (ltb-true _ _ e))
   how-same-by false e = how-kept added call call′ adds (scope (ltb-false _ _ e)) (ltb-false _ _ e)
 
-  before-kept : refusedBefore image (call′ .handle) (call′ .path) (call′ .how) ≡ refusedBefore image (call .handle) (call .path) (call .how)
-  unfolding refusedBefore
+  before-kept : refusedBefore image call′ ≡ refusedBefore image call
+  unfolding refusedBefore refusedAfterTable
   before-kept =
       rw (how-same-by (ltb (length (call .how)) 24) refl, adds .samePath, handle-kept (treeOf image) (call .handle) (call′ .handle) (adds .samePlace))
 
@@ -163,7 +165,7 @@ module _ (added : Restrictions) (image : List ℕ) (call call′ : Call) (adds :
   unfolding traceOf requestOf
   trace-kept l = rw (flags-kept added call call′ adds (scope l) l, in-root-kept added call call′ adds (scope l) l, adds .samePlace, adds .samePath)
 
-  only-stops : (o : Option Refusal) → refusedBefore image (call .handle) (call .path) (call .how) ≡ o
+  only-stops : (o : Option Refusal) → refusedBefore image call ≡ o
       → OnlyStops added image call call′ (resolve image call) (resolve image call′)
   unfolding resolve eventsOf firstForbidden
   only-stops (some r) e = record {
@@ -171,7 +173,7 @@ module _ (added : Restrictions) (image : List ℕ) (call call′ : Call) (adds :
     stopped = λ m p f. absurd (some-not-none (m, p) (sym (rw e at f)));
   }
   only-stops none e =
-      let l = how-long (call .how) (unrefused image (call .handle) (call .path) (call .how) e .how-passes) in
+      let l = how-long (call .how) (unrefused image call e .how-passes) in
       let all = all-set added call call′ adds (scope l) l in
       let R = restrictions call in
       let now = restrictions call′ in
@@ -183,7 +185,7 @@ module _ (added : Restrictions) (image : List ℕ) (call call′ : Call) (adds :
 
 pub demand-3 : Demand3
 demand-3 added image call call′ a =
-    only-stops added image call call′ (a .adds) (a .scope) (refusedBefore image (call .handle) (call .path) (call .how)) refl
+    only-stops added image call call′ (a .adds) (a .scope) (refusedBefore image call) refl
 
 -- the same of answers that are known to be the two calls'
 pub only-stops-answers : (image : List ℕ) (call call′ : Call) {first second : Answer} → first ≡ resolve image call → second ≡ resolve image call′

@@ -11,13 +11,13 @@ use Rattle.model.specs.Tree.{sizesOf, nodesPart, mountsPart, entriesPart, textP
 use Rattle.model.specs.TableCheck.{rule1, rule2, countsFit, wholeLength, rule3, directoryCount, sumBelow, countsBefore, directoryHolds, fileHolds, symlinkHolds, magicHolds, nodeHolds, rule4}
 use Rattle.model.specs.TableCheck.{nameHolds, follows, ascends, standsInParent, entryHolds, rule5, pointHolds, sharesPoint, hangs, mountHolds}
 use Rattle.model.specs.TableCheck.{rule6, targetHolds, magicTargetHolds, rule7, recordsCheck, tableCheck}
-use Rattle.model.specs.OpenHow.{flagsOf, modeOf, paddingOf, resolveOf, unknownBit, tailSet, bothScopes, modeSet, howRefused, IN-ROOT}
+use Rattle.model.specs.OpenHow.{flagsOf, modeOf, paddingOf, resolveOf, unknownBit, tailSet, lengthRefused, modeSet, howRefused, IN-ROOT}
 use Rattle.model.specs.Path.{upToSlash, componentsFrom, components, absolute, endsInSlash, pathRefused}
 use Rattle.model.specs.Handles.{handleRefused}
 use Rattle.model.specs.Trace.{beneath, Restrictions, meets, row, firstSet, forbids, refusedBy, answer}
 use Rattle.model.specs.Walk.{samePlace, rootOf, pointOf, enter, toParent, climb, atTop, goUp, magicLink, symbolicLink, followLink}
 use Rattle.model.specs.Walk.{stepTo, byName, oneComponent, finish, transition, walkPending, walk, beginAt, walkPath}
-use Rattle.model.specs.Resolve.{refusedBefore, restrictions, requestOf, traceOf, resolve}
+use Rattle.model.specs.Resolve.{refusedAfterTable, refusedBefore, restrictions, requestOf, traceOf, resolve}
 use Rattle.model.proofs.BenchTree.{digit, hexBytes, hex, benchNodes, benchMounts, benchEntries, bench, openHow}
 use Rattle.model.specs.declared.Errno.{Errno}
 use Rattle.model.specs.declared.Answer.{Answer}
@@ -52,12 +52,12 @@ unfolding field fieldBytes part has contains sameBytes before find firstFailing 
     sizesOf nodesPart mountsPart entriesPart textPart treeOf isDirectory isLink holds lookup meetsWithin under mountOn covered
     rule1 rule2 countsFit wholeLength rule3 directoryCount sumBelow countsBefore directoryHolds fileHolds symlinkHolds magicHolds nodeHolds rule4
     nameHolds follows ascends standsInParent entryHolds rule5 pointHolds sharesPoint hangs mountHolds rule6 targetHolds magicTargetHolds rule7 recordsCheck tableCheck
-    flagsOf modeOf paddingOf resolveOf unknownBit tailSet bothScopes modeSet howRefused
+    flagsOf modeOf paddingOf resolveOf unknownBit tailSet lengthRefused modeSet howRefused
     upToSlash componentsFrom components absolute endsInSlash pathRefused handleRefused
     meets row firstSet forbids answer
     samePlace rootOf pointOf enter toParent climb atTop goUp magicLink symbolicLink followLink
     stepTo byName oneComponent finish transition walkPending walk beginAt walkPath
-    refusedBefore restrictions requestOf traceOf resolve
+    refusedAfterTable refusedBefore restrictions requestOf traceOf resolve
     digit hexBytes hex benchNodes benchMounts benchEntries bench openHow
     addedBits withBits withMark meetings eventsOf firstForbidden setOf
 rows = record {

@@ -69,7 +69,7 @@ meetings R (meet e p later) = onward (forbids R e) (e, p) (meetings R later)
 -- meets none."
 unfoldable pub eventsOf : List ℕ → Call → List Meeting
 eventsOf image call =
-    ifNone (refusedBefore image (call .handle) (call .path) (call .how)) (meetings (restrictions call) (traceOf image call))
+    ifNone (refusedBefore image call) (meetings (restrictions call) (traceOf image call))
 
 -- "the first event of that walk that an added one forbids"
 unfoldable pub firstForbidden : Restrictions → List Meeting → Option Meeting

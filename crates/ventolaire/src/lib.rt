@@ -3,6 +3,7 @@
 use model::Answer;
 use model::Errno;
 use model::Handle;
+use model::NO_DETAIL;
 use model::Verdict;
 use resolver::resolve;
 use resolver::resolve_accepted;
@@ -74,7 +75,7 @@ fn put_answer(out: &mut [u64], a: Answer)
             put6(
                 out,
                 0,
-                255,
+                NO_DETAIL as u64,
                 p.mount as u64,
                 p.node as u64,
                 g.components as u64,

@@ -44,6 +44,9 @@ pub enum Next {
     Failed(Errno, State),
 }
 
+// The positions of a text, its end among them: a text and a position in it are one number.
+const POSITIONS: usize = 4096;
+
 // After a component: on in the same text, back in the one suspended last, or at the end. A suspended text has a component left, so
 // one step back is enough.
 fn advance<'a>(image: &'a [u8], c: Counts, path: &'a [u8], stack: &[u32], w: Walk) -> Next
@@ -62,8 +65,8 @@ fn advance<'a>(image: &'a [u8], c: Counts, path: &'a [u8], stack: &[u32], w: Wal
     let v = stack[depth - 1] as usize;
     Next::More(Walk {
         state,
-        text: v / 4096,
-        at: v % 4096,
+        text: v / POSITIONS,
+        at: v % POSITIONS,
         depth: depth - 1,
     })
 }
@@ -96,7 +99,7 @@ fn enter_body<'a>(
     let at = w.at;
     let here = text_of(image, c, path, text);
     if !at_end(here, at) {
-        stack[depth] = (text * 4096 + at) as u32;
+        stack[depth] = (text * POSITIONS + at) as u32;
         return Walk {
             state: s,
             text: n,

@@ -7,8 +7,9 @@ use Rattle.model.specs.Tree.{treeOf}
 use Rattle.model.specs.OpenHow.{howRefused}
 use Rattle.model.specs.Path.{pathRefused}
 use Rattle.model.specs.Handles.{handleRefused}
+use Rattle.model.specs.Resolve.{refusedAfterTable}
 use Rattle.open_how.specs.Fields.{fieldsOf, readHow}
-use Rattle.call.specs.Calls.{refusedAfterTable, callRead}
+use Rattle.call.specs.Calls.{callRead}
 use Rattle.call.specs.declared.CallRead.the-variants.{Walks}
 use Rattle.checks.proofs.CheckLaws.{passed, stopped}
 use Rattle.open_how.proofs.CheckLaws.{how-passed, how-stopped}

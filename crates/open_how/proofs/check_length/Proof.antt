@@ -4,7 +4,7 @@ use mathlib.Core.Path.{sym, _∙_}
 use borrow.Author.Tests.{lt-ltb, le-ltb}
 use denote.Ref.{now}
 use lib.ListN.{length}
-use Rattle.open_how.specs.Fields.{lengthRefused}
+use Rattle.model.specs.OpenHow.{lengthRefused}
 use Rattle.open_how.proofs.check_length.Statement.{statement}
 use Rattle.open_how.proofs.check_length.Tie as tie
 

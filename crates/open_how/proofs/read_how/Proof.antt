@@ -5,10 +5,12 @@ use mathlib.Core.Path.{refl, sym, ap, _∙_}
 use native.Mathlib.Omega.{arith}
 use denote.Ref.{now}
 use Rattle.model.specs.Bytes.{field}
-use Rattle.open_how.specs.Fields.{lengthRefused, readHow}
+use Rattle.model.specs.OpenHow.{lengthRefused, flagsRefused, resolveRefused, scopesRefused, modeRefused}
+use Rattle.open_how.specs.Fields.{readHow}
 use Rattle.open_how.specs.declared.HowRead.the-variants.{Fields}
+use Rattle.laws.proofs.Refusals.{length-long}
 use Rattle.checks.proofs.CheckLaws.{passed, stopped}
-use Rattle.open_how.proofs.HowLaws.{flagsRefused, resolveRefused, scopesRefused, modeRefused, read-steps, read-fields, length-long}
+use Rattle.open_how.proofs.HowLaws.{read-steps, read-fields}
 use Rattle.open_how.proofs.read_how.Statement.{statement}
 use Rattle.open_how.proofs.read_how.Tie as tie
 

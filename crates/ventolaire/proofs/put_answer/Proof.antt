@@ -20,7 +20,7 @@ enum-known-a-2 c = search needs
 errno-number-requires : tie.Need-errno-number-requires
 errno-number-requires c κs = search needs
 
-cast-put6 : tie.Need-cast-put6
+cast-put6 : tie.Need-cast-put6-2
 cast-put6 c = search needs
 
 put6-requires-2 : tie.Need-put6-requires-2
@@ -55,6 +55,7 @@ put-answer-spec =
     tie.close
     (tie.spec
     enum-known-a
+    (λ c. search needs)
     put6-requires
     enum-known-a-2
     errno-number-requires

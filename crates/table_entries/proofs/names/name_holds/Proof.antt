@@ -1,19 +1,22 @@
 -- `table_entries::names::name_holds` meets its contract: each return is a part of the sentence that fails, or the last one.
 -- Assumes nothing.
 use borrow.Author.Needs.{needs}
-use Prim.Native.Nat.{_+_}
+use Prim.Native.Nat.{ℕ, _+_}
 use mathlib.Core.Bool.{true, not, and-false}
 use mathlib.Core.List.{[]}
 use mathlib.Core.Path.{ap, _∙_, sym}
 use native.Mathlib.Omega.{arith}
 use borrow.Author.Tests.{le-leb, lt-leb, ltb-true}
+use lib.Dec.{eqb}
 use lib.ListN.{length}
 use denote.Ref.{now}
 use Rattle.laws.proofs.PartLaws.{part-whole}
 use Rattle.parts.specs.Parts.{entriesTree}
+use Rattle.strings.specs.Dots.{dotsOf}
+use Rattle.strings.proofs.DotLaws.{dots-other}
 use Rattle.text_marks.specs.Barred.{holdsBarred}
 use Rattle.table_texts.proofs.SureLaws.{sure-name}
-use Rattle.table_entries.proofs.NameLaws.{dots, name-test}
+use Rattle.table_entries.proofs.NameLaws.{name-test}
 use Rattle.table_entries.proofs.names.name_holds.Statement.{statement}
 use Rattle.table_entries.proofs.names.name_holds.Tie as tie
 
@@ -52,24 +55,35 @@ returns-4 c =
     let bad = ap (holdsBarred true) (sym (c .before .before .name .ensures)) ∙ sym (c .before .holds-forbidden .ensures) ∙ c .if4 .taken in
     sym (name-test t (a .e) ∙ simp (bad, and-false))
 
-is-dots-requires : tie.Need-is-dots-requires
-is-dots-requires c κs =
-    let a = c .before .before .before .before .before .before .before .before .before .before .args in
+shared-slice-read-if5 : tie.Need-shared-slice-read-if5
+shared-slice-read-if5 c =
+    let a = c .before .before .before .before .before .before .before .before .before .before .before .args in
     let t = entriesTree (a .c) [] (now (a .entries)) (now (a .text)) in
     let l = part-whole (now (a .text)) (t .nameOffset (a .e)) (t .nameLength (a .e)) (omega arith) in
-    omega (arith, ap length (c .before .before .name .ensures))
+    omega (arith, ap length (c .before .before .before .name .ensures))
 
 returns-5 : tie.Need-returns-5
 returns-5 c =
-    let a = c .before .before .before .before .before .before .before .before .before .before .before .args in
-    let name = c .before .before .before .name in
-    let holds-forbidden = c .before .before .holds-forbidden in
-    let if4 = c .before .if4 in
+    let a = c .before .before .before .before .before .before .before .before .before .before .before .before .args in
+    let name = c .before .before .before .before .name in
+    let holds-forbidden = c .before .before .before .holds-forbidden in
     let t = entriesTree (a .c) [] (now (a .entries)) (now (a .text)) in
     let at = t .nameOffset (a .e) in
     let l = t .nameLength (a .e) in
-    let good = ap (holdsBarred true) (sym (name .ensures)) ∙ sym (holds-forbidden .ensures) ∙ if4 .left in
-    ap not (c .is-dots .ensures ∙ ap dots (name .ensures))
+    let good = ap (holdsBarred true) (sym (name .ensures)) ∙ sym (holds-forbidden .ensures) ∙ c .before .before .if4 .left in
+    let other = ap dotsOf (sym (name .ensures)) ∙ dots-other (now (name .result)) (λ z. absurd (omega (arith, z, ap length (name .ensures), part-whole (now (a .text)) at l (omega arith)))) (c .if5 .taken) in
+    sym (name-test t (a .e) ∙ rw (le-leb (at + l) (t .textLength) (omega arith), le-leb 1 l (omega arith), le-leb l 255 (omega arith), good, other))
+
+returns-6 : tie.Need-returns-6
+returns-6 c =
+    let a = c .before .before .before .before .before .before .before .before .before .before .before .before .before .args in
+    let name = c .before .before .before .before .before .name in
+    let holds-forbidden = c .before .before .before .before .holds-forbidden in
+    let t = entriesTree (a .c) [] (now (a .entries)) (now (a .text)) in
+    let at = t .nameOffset (a .e) in
+    let l = t .nameLength (a .e) in
+    let good = ap (holdsBarred true) (sym (name .ensures)) ∙ sym (holds-forbidden .ensures) ∙ c .before .before .before .if4 .left in
+    ap (λ (d : ℕ). eqb d 0) (c .dots .ensures ∙ ap dotsOf (name .ensures))
     ∙ sym (name-test t (a .e)
     ∙ rw (le-leb (at + l) (t .textLength) (omega arith), le-leb 1 l (omega arith), le-leb l 255 (omega arith), good))
 
@@ -84,5 +98,7 @@ name-holds-spec =
     (λ c κs. search needs)
     holds-forbidden-requires
     returns-4
-    is-dots-requires
-    returns-5)
+    shared-slice-read-if5
+    returns-5
+    (λ c κs. search needs)
+    returns-6)

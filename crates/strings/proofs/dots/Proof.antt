@@ -1,10 +1,10 @@
--- `component::dots` meets its contract. Assumes nothing.
+-- `strings::dots` meets its contract. Assumes nothing.
 use borrow.Author.Needs.{needs}
 use mathlib.Core.Path.{sym}
 use denote.Ref.{now}
-use Rattle.component.proofs.DotLaws.{dots-long, dots-empty, dots-other, dots-one, dots-half, dots-two}
-use Rattle.component.proofs.dots.Statement.{statement}
-use Rattle.component.proofs.dots.Tie as tie
+use Rattle.strings.proofs.DotLaws.{dots-long, dots-empty, dots-other, dots-one, dots-half, dots-two}
+use Rattle.strings.proofs.dots.Statement.{statement}
+use Rattle.strings.proofs.dots.Tie as tie
 
 returns : tie.Need-returns
 returns c = sym (dots-long (now (c .before .args .name)) (c .if1 .taken))
