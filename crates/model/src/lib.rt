@@ -1,39 +1,39 @@
 // The types that the definitions, the promises and the code share. The definitions are in specs/, the theorems over them in
 // proofs/.
 
-// A place, in document 01's sense: a node as it is seen through one mount.
+// A place (RULES 3.5): a node as it is seen through one mount.
 pub struct Place {
     pub mount: usize,
     pub node: usize,
 }
 
-// A directory handle. The mark is the below mark of OpenBSD's O_BELOW proposal, kept with the handle.
+// A directory handle. The mark is the below mark of OpenBSD's O_BELOW proposal, kept with the handle (RULES 5.1, 6.9).
 pub struct Handle {
     pub mount: usize,
     pub node: usize,
     pub mark: bool,
 }
 
-// How far a walk came: components taken and links followed.
+// How far a walk came: components taken and links followed (RULES 11.2).
 pub struct Progress {
     pub components: usize,
     pub links: usize,
 }
 
-// A walk's state: where it stands, how far it came, and whether it must end on a directory.
+// A walk's state: where it stands, how far it came, and whether it must end on a directory (RULES 9.1).
 pub struct State {
     pub place: Place,
     pub progress: Progress,
     pub directory: bool,
 }
 
-// What Found carries.
+// What Found carries (RULES 5.3).
 pub struct Reached {
     pub place: Place,
     pub progress: Progress,
 }
 
-// The error numbers that the resolver gives, by their usual names. Answers.antt in specs/ has each one's number.
+// The error numbers that the resolver gives, by their usual names (RULES 5.7). Answers.antt in specs/ has each one's number.
 pub enum Errno {
     Euclean,
     E2big,
@@ -46,7 +46,7 @@ pub enum Errno {
     Exdev,
 }
 
-// What a refusal carries: detail is an unknown bit's number, else 255.
+// What a refusal carries (RULES 5.4): detail is an unknown bit's number, else 255.
 pub struct Refusal {
     pub errno: Errno,
     pub detail: u32,
@@ -59,7 +59,7 @@ pub enum Answer {
     Refused(Refusal),
 }
 
-// The table check's answer: accepted, or the lowest rule broken with the lowest record that breaks it.
+// The table check's answer: accepted, or the lowest rule broken with the lowest record that breaks it (RULES 4.8).
 pub enum Verdict {
     Accepted,
     Broken { rule: usize, record: usize },
