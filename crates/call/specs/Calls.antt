@@ -14,7 +14,7 @@ use Rattle.open_how.specs.declared.How.{How}
 use Rattle.call.specs.declared.CallRead.{CallRead}
 use Rattle.call.specs.declared.CallRead.the-variants.{Walks, Refused as CallRefused}
 
--- "Order: table, open_how length .., path too long, path empty, zero byte, handle, walk.": what may refuse after the table
+-- "Order: table, open_how length .., path too long, path empty, zero byte, handle, walk." (RULES 7.1): what may refuse after the table
 unfoldable pub refusedAfterTable : List ℕ → Handle → List ℕ → List ℕ → Option Refusal
 refusedAfterTable image h path how =
     orElse (howRefused how) (orElse (pathRefused path) (handleRefused (treeOf image) h))

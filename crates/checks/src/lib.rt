@@ -11,7 +11,7 @@ pub enum Check {
     Refused(Refusal),
 }
 
-// Both counts are 0 before the walk, and the detail is 255 except for unknown bits.
+// Both counts are 0 before the walk, and the detail is 255 except for unknown bits (RULES 5.4, 5.5).
 pub fn refuse(errno: Errno) -> Check
     ensures { λ r. ⌜ r ≡ Check.Refused (refusal errno notWalked) ⌝ }
 {
