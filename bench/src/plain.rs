@@ -1,8 +1,8 @@
 //! The table check and the resolver, written straight over the image bytes:
 //! the plain Rust that the proved code is measured against.
 //!
-//! Nothing is allocated and nothing is unsafe. The rules are those of the
-//! project's scope, document 01, and rule numbers here are its numbers.
+//! Nothing is allocated and nothing is unsafe. The rules are those of
+//! docs/RULES.md; table rule k is RULES 4.k.
 
 use std::ops::RangeInclusive;
 

@@ -189,7 +189,7 @@ pub fn how(flags: u64, resolve: u64) -> Vec<u8> {
     [flags, 0, resolve].iter().flat_map(|field| field.to_le_bytes()).collect()
 }
 
-/// The bench tree of document 01, its nodes numbered as there.
+/// The bench tree (RULES 13), its nodes numbered as there.
 pub fn bench_tree() -> Tree {
     let mut tree = Tree::default();
     let top = tree.top();

@@ -1,6 +1,6 @@
-//! The rules tried on the plain side, and the linear check beside it: document
-//! 01's own table and limits, each table rule broken, and the answers that the
-//! measured cases expect.
+//! The rules tried on the plain side, and the linear check beside it: the worked
+//! calls and limits (RULES 13.4, 11.3), each table rule broken, and the answers
+//! that the measured cases expect.
 
 use crate::chart;
 use crate::growth::{self, GROWTHS};

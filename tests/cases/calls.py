@@ -17,7 +17,7 @@ KNOWN_RESOLVE = [0, 1, 2, 3, 4]
 # ---------------------------------------------------------------------------------------------------------------------------------
 group("The open_how", "The bench tree, handle (0,1), path `cal` if no other is given.")
 over(BENCH, "bench")
-says("| 7 E2BIG | open_how over 4,096 bytes, or over 24 with a byte after the 24th not zero | .. | 22 EINVAL | open_how under 24 bytes;")
+says("6.2", "| 7 E2BIG | open_how over 4,096 bytes, or over 24 with a byte after the 24th not zero | .. | 22 EINVAL | open_how under 24 bytes;")
 for length, answer in [
     (0, refused(EINVAL)),
     (1, refused(EINVAL)),
@@ -45,7 +45,7 @@ how = bytearray(25)
 how[24] = 0x80
 call("how-25-high-bit-set", "cal", refused(E2BIG), how=bytes(how), shown="25 bytes, the highest bit of byte 25 set")
 
-says("| 22 EINVAL | .. both BENEATH and IN_ROOT; mode or padding not zero;")
+says("6.7, 6.8", "| 22 EINVAL | .. both BENEATH and IN_ROOT; mode or padding not zero;")
 call("both-scopes", "cal", refused(EINVAL), resolve=BENEATH | IN_ROOT)
 call("both-scopes-and-more", "cal", refused(EINVAL), resolve=BENEATH | IN_ROOT | NO_XDEV | NO_MAGICLINKS | NO_SYMLINKS)
 for byte in range(9, 17):
@@ -56,14 +56,14 @@ for byte in range(9, 17):
 call("mode-0600", "cal", refused(EINVAL), how=open_how(mode=0o600), shown="mode 0600")
 call("padding-high-bit", "cal", refused(EINVAL), how=open_how(mode=1 << 63), shown="the padding's highest bit")
 
-says("Flags known: O_DIRECTORY 0x10000, O_NOFOLLOW 0x20000, O_PATH 0x200000, O_CLOEXEC 0x80000 (no effect); house: no others yet.")
+says("6.3", "Flags known: O_DIRECTORY 0x10000, O_NOFOLLOW 0x20000, O_PATH 0x200000, O_CLOEXEC 0x80000 (no effect); house: no others yet.")
 for bit in KNOWN_FLAGS:
     call(f"known-flag-{bit}", "cal", found(0, 2, 1, 0), flags=1 << bit)
 call("known-flags-all", "cal", found(0, 2, 1, 0), flags=O_DIRECTORY | O_NOFOLLOW | O_PATH | O_CLOEXEC)
 call("o-cloexec-on-link", "cal/up", found(0, 0, 4, 1), flags=O_CLOEXEC)
 call("o-cloexec-on-file", "cal/tare", found(0, 3, 2, 0), flags=O_CLOEXEC)
 
-says("Resolve: NO_XDEV 1, NO_MAGICLINKS 2, NO_SYMLINKS 4, BENEATH 8, IN_ROOT 16.")
+says("6.4", "Resolve: NO_XDEV 1, NO_MAGICLINKS 2, NO_SYMLINKS 4, BENEATH 8, IN_ROOT 16.")
 for bit in KNOWN_RESOLVE:
     call(f"known-resolve-{bit}", "cal", found(0, 2, 1, 0), resolve=1 << bit)
 call("known-resolve-all-but-in-root", "cal", found(0, 2, 1, 0), resolve=15)
@@ -71,7 +71,7 @@ call("known-resolve-all-but-beneath", "cal", found(0, 2, 1, 0), resolve=23)
 
 # ---------------------------------------------------------------------------------------------------------------------------------
 group("Unknown bits", "The bench tree, handle (0,1), path `cal`: EINVAL, with the number of the bit as detail.")
-says("An unknown bit is named by its number, lowest first: detail b for flags bit b, 64 + b for resolve bit b.")
+says("6.5, 6.6", "An unknown bit is named by its number, lowest first: detail b for flags bit b, 64 + b for resolve bit b.")
 for bit in range(64):
     if bit not in KNOWN_FLAGS:
         call(f"flags-bit-{bit}", "cal", refused(EINVAL, detail=bit), flags=1 << bit, family="each unknown bit of flags")
@@ -88,13 +88,13 @@ call("resolve-bits-31-32", "cal", refused(EINVAL, detail=95), resolve=3 << 31)
 call("resolve-all", "cal", refused(EINVAL, detail=69), resolve=2**64 - 1)
 call("flags-and-resolve-all", "cal", refused(EINVAL, detail=0), flags=2**64 - 1, resolve=2**64 - 1)
 
-says("OpenBSD's O_BELOW has the value 0x40000, which here is unknown; the mark belongs to the handle.")
+says("6.9", "OpenBSD's O_BELOW has the value 0x40000, which here is unknown; the mark belongs to the handle.")
 call("o-below", "cal", refused(EINVAL, detail=18), flags=0x40000)
 call("o-below-marked", "..", refused(EINVAL, detail=18), mark=True, flags=0x40000)
 
 # ---------------------------------------------------------------------------------------------------------------------------------
 group("The path", "The bench tree, handle (0,1).")
-says("| 36 ENAMETOOLONG | path over 4,095 bytes, or a component over 255 when looked up |")
+says("7.3, 9.9", "| 36 ENAMETOOLONG | path over 4,095 bytes, or a component over 255 when looked up |")
 call("path-4095-dots", "./" * 2047 + ".", found(0, 1, 2048, 0), shown="2,047 times `./` and `.`: 4,095 bytes")
 call("path-4096-dots", "./" * 2048, refused(ENAMETOOLONG), shown="2,048 times `./`: 4,096 bytes")
 call("path-4095-slashes", "/" * 4095, found(0, 0, 0, 0), shown="4,095 slashes")
@@ -112,7 +112,7 @@ call("name-256-in-body", "long", refused(ENAMETOOLONG, 2, 1), at=(0, 0))
 call("name-254-absent", "n" * 254, refused(ENOENT, 1, 0), at=(0, 0), shown="a name of 254 bytes")
 over(BENCH, "bench")
 
-says("| 2 ENOENT | empty path; .. | 22 EINVAL | .. zero byte in the path (house) |")
+says("7.3", "| 2 ENOENT | empty path; .. | 22 EINVAL | .. zero byte in the path (house) |")
 call("path-empty", "", refused(ENOENT))
 call("path-empty-in-root", "", refused(ENOENT), resolve=IN_ROOT)
 call("path-zero", b"\0", refused(EINVAL))
@@ -124,7 +124,7 @@ call("path-zero-at-4095", b"/" * 4094 + b"\0", refused(EINVAL), shown="4,094 sla
 
 # ---------------------------------------------------------------------------------------------------------------------------------
 group("The handle", "The bench tree (12 nodes, 2 mounts) and `layered`; path `.` if no other is given.")
-says('In this order: number out of range: EBADF; not a directory: ENOTDIR; not under the mount\'s root, or "covered": EBADF.')
+says("7.4", 'In this order: number out of range: EBADF; not a directory: ENOTDIR; not under the mount\'s root, or "covered": EBADF.')
 call("handle-root", ".", found(0, 0, 1, 0), at=(0, 0))
 call("handle-mount-1", ".", found(1, 8, 1, 0), at=(1, 8))
 call("handle-mount-2", ".", refused(EBADF), at=(2, 8))
@@ -160,7 +160,7 @@ call("handle-above-mount-6", ".", refused(EBADF), at=(6, 0))
 call("handle-of-mount-1-in-mount-6", ".", refused(EBADF), at=(6, 4))
 over(BENCH, "bench")
 
-says('A place is covered if it is the point, in the parent mount, of a mount other than mount 0. It is checked for every path.')
+says("3.7, 7.5", 'A place is covered if it is the point, in the parent mount, of a mount other than mount 0. It is checked for every path.')
 call("handle-covered", ".", refused(EBADF), at=(0, 7))
 call("handle-covered-absolute", "/", refused(EBADF), at=(0, 7))
 call("handle-bad-absolute", "/lab/cal", refused(EBADF), at=(0, 12))
@@ -175,7 +175,7 @@ over(BENCH, "bench")
 
 # ---------------------------------------------------------------------------------------------------------------------------------
 group("The order of refusals", "The bench tree. Each call has two faults or more, and the earlier is answered.")
-says("Order: table, open_how length (too short, too long, tail), flags, resolve, both scopes, mode, path too long, path empty, zero byte, handle, walk.")
+says("7.1", "Order: table, open_how length (too short, too long, tail), flags, resolve, both scopes, mode, path too long, path empty, zero byte, handle, walk.")
 LONG = "n" * 4096
 SHORT = bytes([1]) + bytes(22)
 TAIL = bytes(1) + b"\1"
@@ -216,7 +216,7 @@ call("order-covered-enoent", "nope", refused(EBADF), at=(0, 7), shown="a covered
 # ---------------------------------------------------------------------------------------------------------------------------------
 group("Limits of the walk", "Over `chains` and `longest`, handle (0,0).")
 over(CHAINS, "chains")
-says("Limits: 40 links pass, 41 don't;")
+says("11.3", "Limits: 40 links pass, 41 don't;")
 call("links-tail-40", "t1", found(0, 1, 41, 40), at=(0, 0))
 call("links-tail-41", "t0", refused(ELOOP, 41, 40), at=(0, 0))
 call("links-nested-40", "n1", found(0, 1, 80, 40), at=(0, 0))
@@ -231,7 +231,7 @@ call("links-mixed-40", "m/" * 10 + "n31/../t31/../a31", found(0, 1, 54, 40), at=
 call("links-mixed-41", "m/" * 11 + "n31/../t31/../a31", refused(ELOOP, 54, 40), at=(0, 0), shown="11 times `m/` and `n31/../t31/../a31`")
 call("links-40-then-unfollowed", "t1/../t0", found(0, 4, 43, 40), at=(0, 0), flags=O_NOFOLLOW | O_PATH)
 
-says("A link that is not last, or is last and followed: the 41st gives ELOOP. Then event Link.")
+says("9.13", "A link that is not last, or is last and followed: the 41st gives ELOOP. Then event Link.")
 call("links-41st-magic-free", "u1", refused(ELOOP, 41, 40), at=(0, 0))
 call("links-41st-magic-beneath", "u1", refused(ELOOP, 41, 40), at=(0, 0), resolve=BENEATH)
 call("links-41st-magic-mark", "u1", refused(ELOOP, 41, 40), at=(0, 0), mark=True)
@@ -246,7 +246,7 @@ call("links-40th-jump-free", "v2", found(0, 1, 41, 40), at=(0, 0))
 call("links-40th-jump-beneath", "v2", refused(EXDEV, 40, 39), at=(0, 0), resolve=BENEATH)
 call("links-40th-jump-mark", "v2", refused(ENOENT, 40, 39), at=(0, 0), mark=True)
 
-says('A directory is required by O_DIRECTORY, by a "/" ending the path, or by one ending the body of a followed last link.')
+says("9.4, 9.16", 'A directory is required by O_DIRECTORY, by a "/" ending the path, or by one ending the body of a followed last link.')
 call("links-40-to-file", "w1", found(0, 209, 41, 40), at=(0, 0))
 call("links-40-required-by-flag", "w1", refused(ENOTDIR, 41, 40), at=(0, 0), flags=O_DIRECTORY)
 call("links-40-required-by-flag-and-there", "t1", found(0, 1, 41, 40), at=(0, 0), flags=O_DIRECTORY)
@@ -268,7 +268,7 @@ call("links-40-magic-required-and-there", "u2/", found(0, 0, 40, 40), at=(0, 0))
 call("links-41-required-by-slash", "w0/", refused(ELOOP, 41, 40), at=(0, 0))
 call("links-41-required-by-each-body", "s0", refused(ELOOP, 41, 40), at=(0, 0))
 
-says("At most 40 links are followed and at most 83,968 components taken (41 texts of at most 2,048).")
+says("11.1", "At most 40 links are followed and at most 83,968 components taken (41 texts of at most 2,048).")
 over(LONGEST, "longest")
 call("components-83968", "./" * 2047 + "a", found(0, 39, 83968, 40), at=(0, 0), shown="2,047 times `./` and `a`")
 call("components-83968-refused", "./" * 2047 + "s", refused(ELOOP, 83968, 40), at=(0, 0), shown="2,047 times `./` and `s`")

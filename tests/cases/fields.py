@@ -29,6 +29,7 @@ group(
     "directories 0 to 5 in the high byte alone. Every byte but the lowest is also set alone in `narrow`, where it breaks a rule.",
 )
 says(
+    "2.3, 4.2, 4.3",
     "Then u16 counts of nodes N, mounts M, entries E; u16 zero; u32 text length T; u32 total length: 20 bytes. .. 2. Signature and zero "
     "field. 3. N 1 to 4,096, M 1 to 256, E 0 to 4,096; total length = 20 + 12N + 8M + 8E + T = image length."
 )
@@ -48,6 +49,7 @@ call("byte-handle-mount-255-up", "..", found(0, 0, 1, 0), at=(255, 0), image=OF_
 call("byte-handle-mount-256", ".", refused(EBADF), at=(256, 0), image=OF_256_MOUNTS, shown="256 mounts: `.`")
 
 says(
+    "2.5, 4.4",
     "Node: u16 kind, u16 parent, u32 first, u32 count. Kind 1 directory: its entries are count records from first. .. 4. Nodes: kind 1 "
     "to 4. A directory's parent is a directory numbered no higher than itself ..; its first is the sum of earlier directories' counts. "
     "These counts sum to E (else record N)."
@@ -66,13 +68,14 @@ call("byte-first-next", "a/b", found(0, 2, 2, 0), at=(0, 0))
 call("byte-count-fourth-name", "102", found(0, 102, 1, 0), at=(0, 0))
 call("byte-count-last-name", "w", found(0, 265, 1, 0), at=(0, 0), flags=O_PATH | O_NOFOLLOW)
 
-says("2 file. .. 4. Nodes: kind 1 to 4. .. Other kinds: parent 0. File: first and count 0.")
+says("2.5, 4.4", "2 file. .. 4. Nodes: kind 1 to 4. .. Other kinds: parent 0. File: first and count 0.")
 upper_bytes("node", 2, "kind", broken(4, 2), "file")
 upper_bytes("node", 2, "parent", broken(4, 2), "file")
 upper_bytes("node", 2, "first", broken(4, 2), "file")
 upper_bytes("node", 2, "count", broken(4, 2), "file")
 
 says(
+    "2.5, 4.4",
     "3 symbolic link: body is count text bytes at offset first. .. 4. Nodes: kind 1 to 4. .. Other kinds: parent 0. .. Symbolic link: body "
     "inside the text, 1 to 4,095 bytes, no zero byte."
 )
@@ -87,6 +90,7 @@ call("byte-link-first-65454", "l", found(0, 1, 2, 1), at=(0, 0))
 over(WIDE, "wide")
 
 says(
+    "2.5, 4.4, 4.7",
     "4 magic link: first is the target mount, count the target node. .. 4. Nodes: kind 1 to 4. .. Other kinds: parent 0. .. 7. Magic links: "
     "target mount below M, target a directory or file; a directory is under that mount's root."
 )
@@ -99,6 +103,7 @@ call("byte-magic-file", "n", found(1, 263, 1, 1), at=(0, 0))
 call("byte-magic-on", "u/t", found(1, 262, 2, 1), at=(0, 0))
 
 says(
+    "2.6, 4.6",
     "Mount: u16 root node, u16 parent mount, u16 mount point node, u16 zero. .. 6. Mounts: root is a directory; last field zero. Mount 0: "
     "parent 0, point = root. Others: parent number lower; point is a directory under the parent's root and not that root;"
 )
@@ -118,6 +123,7 @@ call("byte-point-low-handle", ".", found(0, 3, 1, 0), at=(0, 3))
 call("byte-point-low", "c", found(0, 3, 1, 0), at=(0, 0))
 
 says(
+    "2.7, 4.5",
     'Entry: u32 name offset, u16 name length, u16 node. .. 5. Entries: name inside the text, 1 to 255 bytes, no zero byte or "/", not "." '
     'or ".."; node below N;'
 )

@@ -1,7 +1,7 @@
 """The list of cases, and the words that it is written in.
 
-A group has a title, `says` quotes the sentence of document 01 that the cases after it follow from, and a case is a call or a
-table check with the answer that this sentence gives. No answer is computed: each is written down."""
+A group has a title, `says` quotes the wording of the rules that the cases after it follow from, with their numbers in
+docs/RULES.md, and a case is a call or a table check with the answer that these give. No answer is computed: each is written down."""
 
 from image import number
 
@@ -49,8 +49,8 @@ class Case:
 
 
 class Sentence:
-    def __init__(self, words):
-        self.words, self.cases = words, []
+    def __init__(self, rules, words):
+        self.rules, self.words, self.cases = rules, words, []
 
 
 class Group:
@@ -66,8 +66,8 @@ def group(title, about=""):
     GROUPS.append(Group(title, about))
 
 
-def says(words):
-    GROUPS[-1].sentences.append(Sentence(words))
+def says(rules, words):
+    GROUPS[-1].sentences.append(Sentence(rules, words))
 
 
 def over(image, name):

@@ -262,25 +262,25 @@ def in_text(image, at, byte):
 
 # ---------------------------------------------------------------------------------------------------------------------------------
 group("The table check, rules 1 to 3")
-says("Smallest image, whole (40 bytes): ..")
+says("2.9", "Smallest image, whole (40 bytes): ..")
 check("table-smallest", SMALLEST, ACCEPTED, "the smallest image")
 check("table-bench", trees.bench(), ACCEPTED, "the bench tree")
 
-says("1. Image length 20 to 65,536.")
+says("4.1", "1. Image length 20 to 65,536.")
 check("rule-1-empty", b"", broken(1), "no byte")
 check("rule-1-19", SMALLEST[:19], broken(1), "19 bytes")
 check("rule-1-20", header(1, 1, 0, 0, 20), broken(3), "20 bytes: the header alone")
 check("rule-1-65536", trees.far(), ACCEPTED, "65,536 bytes")
 check("rule-1-65537", with_text(65537), broken(1), "65,537 bytes")
 
-says("2. Signature and zero field.")
+says("4.2", "2. Signature and zero field.")
 for at, byte in enumerate(b"TOC1"):
     check(f"rule-2-signature-{at}", put(SMALLEST, at, byte ^ 0x20, 1), broken(2), f"byte {at} of the signature changed")
 check("rule-2-toc2", b"TOC2" + SMALLEST[4:], broken(2), "TOC2")
 check("rule-2-zero-low", counts(SMALLEST, zero=1), broken(2), "the zero field 1")
 check("rule-2-zero-high", counts(SMALLEST, zero=0x8000), broken(2), "the zero field 0x8000")
 
-says("3. N 1 to 4,096, M 1 to 256, E 0 to 4,096; total length = 20 + 12N + 8M + 8E + T = image length.")
+says("4.3", "3. N 1 to 4,096, M 1 to 256, E 0 to 4,096; total length = 20 + 12N + 8M + 8E + T = image length.")
 check("rule-3-no-node", header(0, 1, 0, 0, 28) + bytes(8), broken(3), "N 0")
 check("rule-3-4096-nodes", of_nodes(4096), ACCEPTED, "N 4,096")
 check("rule-3-4097-nodes", of_nodes(4097), broken(3), "N 4,097")
@@ -297,12 +297,12 @@ check("rule-3-text-more", counts(SMALLEST, text=1), broken(3), "text length one 
 check("rule-3-text-counted", counts(SMALLEST + b"x", text=1, total=41), ACCEPTED, "a text of one byte")
 check("rule-3-image-and-total-longer", counts(SMALLEST + b"x", total=41), broken(3), "a byte that no count has")
 
-says("Sums are plain whole numbers and never wrap.")
+says("4.11", "Sums are plain whole numbers and never wrap.")
 check("rule-3-wraps", counts(SMALLEST, entries=1, text=2**32 - 8), broken(3), "E 1, T so large that the sum is 40 in 32 bits")
 
 # ---------------------------------------------------------------------------------------------------------------------------------
 group("The table check, rule 4", "Node 0 is the first record; the last is node 4 of five, and node 4,095.")
-says("4. Nodes: kind 1 to 4.")
+says("4.4a", "4. Nodes: kind 1 to 4.")
 check("rule-4-base-first", first_node(FILE), ACCEPTED, "a file as node 0")
 check("rule-4-base-last", last_node(DIRECTORY), ACCEPTED, "a directory as node 4")
 for kind in [0, 5, 65535, 256 + FILE]:
@@ -310,7 +310,7 @@ for kind in [0, 5, 65535, 256 + FILE]:
     check(f"rule-4-kind-{kind}-last", node(last_node(FILE), 4, kind=kind), broken(4, 4), f"node 4 of kind {kind}")
 check("rule-4-kind-0-at-4095", node(of_nodes(4096), 4095, kind=0), broken(4, 4095), "node 4,095 of kind 0")
 
-says("A directory's parent is a directory numbered no higher than itself (equal: the top of a tree);")
+says("4.4b", "A directory's parent is a directory numbered no higher than itself (equal: the top of a tree);")
 check("rule-4-parent-higher-first", node(last_node(DIRECTORY), 0, parent=1), broken(4, 0), "node 0 with parent 1")
 check("rule-4-parent-higher", node(last_node(DIRECTORY), 1, parent=2), broken(4, 1), "node 1 with parent 2, a directory")
 check("rule-4-parent-higher-last", node(last_node(DIRECTORY), 4, parent=5), broken(4, 4), "node 4 with parent 5")
@@ -320,7 +320,7 @@ check("rule-4-parent-file-last", node(last_node(DIRECTORY), 4, parent=3), broken
 check("rule-4-parent-link", node(first_node(SYMLINK), 1, parent=0), broken(4, 1), "node 1 with a link as its parent")
 check("rule-4-parent-magic", node(first_node(MAGIC), 1, parent=0), broken(4, 1), "node 1 with a magic link as its parent")
 
-says("its first is the sum of earlier directories' counts. These counts sum to E (else record N).")
+says("4.4c, 4.4h", "its first is the sum of earlier directories' counts. These counts sum to E (else record N).")
 check("rule-4-first-first", node(last_node(DIRECTORY), 0, first=1), broken(4, 0), "node 0 with first 1")
 check("rule-4-first-more-last", node(last_node(DIRECTORY), 4, first=2), broken(4, 4), "node 4, empty, with first 2 for 1")
 check("rule-4-first-less-last", node(last_node(DIRECTORY), 4, first=0), broken(4, 4), "node 4, empty, with first 0 for 1")
@@ -329,7 +329,7 @@ check("rule-4-sum-less", node(node(node(node(last_node(DIRECTORY), 0, count=0), 
 check("rule-4-sum-wraps", node(node(last_node(DIRECTORY), 2, count=2**32 - 2), 4, first=2**32 - 1, count=2), broken(4, 5), "counts that sum to E in 32 bits")
 check("rule-4-record-before-sum", node(node(last_node(DIRECTORY), 4, count=1), 3, count=1), broken(4, 3), "a bad record, and a wrong sum")
 
-says("Other kinds: parent 0. File: first and count 0.")
+says("4.4d, 4.4e", "Other kinds: parent 0. File: first and count 0.")
 for kind, name in [(FILE, "file"), (SYMLINK, "link"), (MAGIC, "magic")]:
     check(f"rule-4-{name}-first", first_node(kind), ACCEPTED, f"a {name} as node 0")
     check(f"rule-4-{name}-last", last_node(kind), ACCEPTED, f"a {name} as node 4")
@@ -340,7 +340,7 @@ check("rule-4-file-first-set-last", node(last_node(FILE), 4, first=2**31), broke
 check("rule-4-file-count-set-first", node(first_node(FILE), 0, count=1), broken(4, 0), "a file as node 0 with count 1")
 check("rule-4-file-count-set-last", node(last_node(FILE), 4, count=65536), broken(4, 4), "a file as node 4 with count 65,536")
 
-says("Symbolic link: body inside the text, 1 to 4,095 bytes, no zero byte.")
+says("4.4f", "Symbolic link: body inside the text, 1 to 4,095 bytes, no zero byte.")
 check("rule-4-body-to-the-end", node(last_node(SYMLINK), 4, first=0, count=5), ACCEPTED, "a body that is the whole text")
 check("rule-4-body-beyond-first", node(first_node(SYMLINK), 0, count=6), broken(4, 0), "node 0: a body one byte beyond the text")
 check("rule-4-body-beyond-last", node(last_node(SYMLINK), 4, first=2), broken(4, 4), "node 4: a body one byte beyond the text")
@@ -376,7 +376,7 @@ check("rule-4-body-zero-of-4095", in_text(of_body(4095), 4094, 0), broken(4, 1),
 # ---------------------------------------------------------------------------------------------------------------------------------
 group("The table check, rule 5", "Four entries: 0 and 1 in node 0, 2 and 3 in node 1.")
 LISTED = listed()
-says('5. Entries: name inside the text, 1 to 255 bytes, no zero byte or "/", not "." or "..";')
+says("4.5a, 4.5b, 4.5c", '5. Entries: name inside the text, 1 to 255 bytes, no zero byte or "/", not "." or "..";')
 check("rule-5-base", LISTED, ACCEPTED, "the four entries as they are")
 check("rule-5-name-to-the-end", entry(LISTED, 3, offset=6), ACCEPTED, "entry 3: the last byte of the text")
 check("rule-5-name-beyond-first", entry(LISTED, 0, offset=7), broken(5, 0), "entry 0: a name one byte beyond the text")
@@ -401,13 +401,13 @@ check("rule-5-dots-last", entry(in_text(in_text(LISTED, 2, ord("!")), 5, ord("."
 check("rule-5-three-dots", in_text(in_text(in_text(of_name(3), 0, ord(".")), 1, ord(".")), 2, ord(".")), ACCEPTED, "`...`")
 check("rule-5-dot-and-more", in_text(of_name(2), 0, ord(".")), ACCEPTED, "`.n`")
 
-says("node below N;")
+says("4.5d", "node below N;")
 check("rule-5-node-n-first", entry(LISTED, 0, node=4), broken(5, 0), "entry 0: node 4 of four")
 check("rule-5-node-n-last", entry(LISTED, 3, node=4), broken(5, 3), "entry 3: node 4 of four")
 check("rule-5-node-65535", entry(LISTED, 3, node=65535), broken(5, 3), "entry 3: node 65,535")
 check("rule-5-at-4095", entry(of_entries(4096), 4095, node=33), broken(5, 4095), "entry 4,095: node 33 of 33")
 
-says("names strictly ascending bytewise within a directory.")
+says("4.5e", "names strictly ascending bytewise within a directory.")
 check("rule-5-equal-first", in_text(LISTED, 1, ord("d")), broken(5, 1), "entries 0 and 1 alike")
 check("rule-5-equal-last", in_text(LISTED, 3, ord("a")), broken(5, 3), "entries 2 and 3 alike")
 check("rule-5-descending-first", in_text(LISTED, 1, ord("e")), broken(5, 1), "entry 0 above entry 1")
@@ -418,7 +418,7 @@ check("rule-5-bytes-unsigned-down", in_text(LISTED, 2, 0x80), broken(5, 3), "ent
 check("rule-5-longer-above", entry(LISTED, 3, offset=2, length=2), ACCEPTED, "`a`, then `ag`")
 check("rule-5-longer-before", entry(entry(LISTED, 2, offset=2, length=2), 3, offset=2, length=1), broken(5, 3), "`ag`, then `a`")
 
-says("An entry that names a directory stands in that directory's parent, and its node number is above the parent's.")
+says("4.5f", "An entry that names a directory stands in that directory's parent, and its node number is above the parent's.")
 check("rule-5-named-twice", entry(LISTED, 0, node=1), ACCEPTED, "entry 0: the directory that entry 1 names too")
 check("rule-5-other-parent-first", entry(LISTED, 0, node=3), broken(5, 0), "entry 0: a directory of node 1, in node 0")
 check("rule-5-other-parent-last", entry(LISTED, 3, node=1), broken(5, 3), "entry 3: node 1, in itself")
@@ -426,13 +426,13 @@ check("rule-5-right-parent-last", entry(LISTED, 3, node=3), ACCEPTED, "entry 3: 
 check("rule-5-top-first", entry(LISTED, 0, node=0), broken(5, 0), "entry 0: the top, in itself")
 check("rule-5-top-last", entry(entry(node(LISTED, 1, parent=1), 1, node=2), 3, node=1), broken(5, 3), "entry 3: node 1, a top, in itself")
 
-says("names strictly ascending bytewise within a directory")
+says("4.5e", "names strictly ascending bytewise within a directory")
 for length, at in [(33, 0), (33, 16), (33, 31), (64, 8), (64, 20), (64, 28), (64, 40), (200, 35), (200, 100), (200, 170), (255, 24), (255, 130), (255, 250)]:
     shown = f"two names of {length} bytes that differ at byte {at}, and in the last the other way round"
     check(f"rule-5-long-{length}-{at}", of_two_names(length, at, True), ACCEPTED, shown)
     check(f"rule-5-long-{length}-{at}-exchanged", of_two_names(length, at, False), broken(5, 1), "the same, exchanged")
 
-says('name inside the text, 1 to 255 bytes, no zero byte or "/"')
+says("4.5a, 4.5b", 'name inside the text, 1 to 255 bytes, no zero byte or "/"')
 check("rule-5-shared", of_shared_names(47), ACCEPTED, "100 names of one text, none over the slash at its end")
 check("rule-5-shared-slash", of_shared_names(47, (1, 100)), broken(5, 99), "the same, the last over it")
 check("rule-5-shared-zero", of_shared_names(0, (1, 100)), broken(5, 99), "the same with a zero byte for the slash")
@@ -451,7 +451,7 @@ check("rule-5-marked-letter", of_marked_names(111, (1, 250)), ACCEPTED, "the sam
 # ---------------------------------------------------------------------------------------------------------------------------------
 group("The table check, rule 6", "Four mounts; mounts 1 and 2 hang in mount 0, mount 3 in mount 1.")
 MOUNTS = of_four_mounts()
-says("6. Mounts: root is a directory; last field zero.")
+says("4.6a, 4.6b", "6. Mounts: root is a directory; last field zero.")
 check("rule-6-base", MOUNTS, ACCEPTED, "the four mounts as they are")
 check("rule-6-root-file-first", mount(MOUNTS, 0, root=3, point=3), broken(6, 0), "mount 0: a file as root and point")
 check("rule-6-root-file-last", mount(MOUNTS, 3, root=3), broken(6, 3), "mount 3: a file as root")
@@ -463,12 +463,12 @@ check("rule-6-field-first", mount(MOUNTS, 0, zero=1), broken(6, 0), "mount 0: la
 check("rule-6-field-last", mount(MOUNTS, 3, zero=0x100), broken(6, 3), "mount 3: last field 256")
 check("rule-6-field-at-255", mount(of_mounts(256), 255, zero=1), broken(6, 255), "mount 255: last field 1")
 
-says("Mount 0: parent 0, point = root.")
+says("4.6c", "Mount 0: parent 0, point = root.")
 check("rule-6-mount-0-parent", mount(MOUNTS, 0, parent=1), broken(6, 0), "mount 0 with parent 1")
 check("rule-6-mount-0-point", mount(MOUNTS, 0, point=1), broken(6, 0), "mount 0 with another point")
 check("rule-6-mount-0-elsewhere", first_node(FILE), ACCEPTED, "mount 0 with root and point 1")
 
-says("Others: parent number lower; point is a directory under the parent's root and not that root;")
+says("4.6d, 4.6e", "Others: parent number lower; point is a directory under the parent's root and not that root;")
 check("rule-6-parent-own-first", mount(MOUNTS, 1, parent=1, point=5), broken(6, 1), "mount 1 in itself")
 check("rule-6-parent-own-last", mount(MOUNTS, 3, parent=3, point=1), broken(6, 3), "mount 3 in itself")
 check("rule-6-parent-higher", mount(MOUNTS, 1, parent=2, point=5), broken(6, 1), "mount 1 in mount 2")
@@ -487,7 +487,7 @@ check("rule-6-point-beside-mount-2", mount(LAYERED, 6, point=8), broken(6, 6), "
 check("rule-6-point-above-mount-2", mount(LAYERED, 6, point=3), broken(6, 6), "`layered`, mount 6 on 3, the parent of its parent's root")
 check("rule-6-point-root-of-mount-2", mount(LAYERED, 6, point=4), broken(6, 6), "`layered`, mount 6 on 4, its parent's root")
 
-says("no two mounts, neither being mount 0, share parent and point. .. Of two records that clash, the later breaks the rule.")
+says("4.6f, 4.10", "no two mounts, neither being mount 0, share parent and point. .. Of two records that clash, the later breaks the rule.")
 check("rule-6-clash-first", mount(MOUNTS, 2, point=1), broken(6, 2), "mounts 1 and 2 on one place")
 check("rule-6-clash-last", mount(MOUNTS, 3, parent=0, point=2), broken(6, 3), "mounts 2 and 3 on one place")
 check("rule-6-clash-far", mount(MOUNTS, 3, parent=0, point=1), broken(6, 3), "mounts 1 and 3 on one place")
@@ -501,7 +501,7 @@ check("rule-6-many-clash-last", mount(MANY, 39, point=1), broken(6, 39), "of the
 check("rule-6-many-clash-two", mount(mount(MANY, 38, point=7), 39, point=1), broken(6, 38), "of these, mounts 7 and 38, and mounts 1 and 39")
 check("rule-6-many-other-parent", mount(MANY, 39, parent=1, point=1), ACCEPTED, "of these, mounts 1 and 39 on one node, in mounts 0 and 1")
 
-says("Node n is under root r if following parents from n, n itself included, meets r.")
+says("3.4", "Node n is under root r if following parents from n, n itself included, meets r.")
 DEEP, NESTED = of_deep_mounts(False), of_deep_mounts(True)
 check("rule-6-deep", DEEP, ACCEPTED, "a chain of 300 directories, 12 of them roots, of mounts at its end in mount 0")
 check("rule-6-deep-clash", mount(DEEP, 12, point=299), broken(6, 12), "the same, mounts 1 and 12 on one place")
@@ -516,7 +516,7 @@ check("rule-6-deep-nested-other-tree", mount(NESTED, 12, point=301), broken(6, 1
 # ---------------------------------------------------------------------------------------------------------------------------------
 group("The table check, rule 7", "A magic link as node 0 or as node 4; one mount.")
 FIRST, LAST = first_node(MAGIC), last_node(MAGIC)
-says("7. Magic links: target mount below M, target a directory or file; a directory is under that mount's root.")
+says("4.7", "7. Magic links: target mount below M, target a directory or file; a directory is under that mount's root.")
 check("rule-7-mount-m-first", node(FIRST, 0, first=1), broken(7, 0), "node 0: mount 1 of one")
 check("rule-7-mount-m-last", node(LAST, 4, first=1), broken(7, 4), "node 4: mount 1 of one")
 check("rule-7-mount-65536", node(LAST, 4, first=65536), broken(7, 4), "mount 65,536")
@@ -550,7 +550,7 @@ check("rule-7-deep-first", node(of_deep_links((0, 301)), 305, count=301), broken
 
 # ---------------------------------------------------------------------------------------------------------------------------------
 group("The table check, which rule and record")
-says('The table check answers "accepted", or the lowest rule broken and the lowest record number breaking it (0 for rules 1 to 3).')
+says("4.8, 4.9", 'The table check answers "accepted", or the lowest rule broken and the lowest record number breaking it (0 for rules 1 to 3).')
 BENCH = trees.bench()
 check("lowest-1-2", b"toc" + SMALLEST[3:19], broken(1), "19 bytes, a bad signature")
 check("lowest-2-3", counts(SMALLEST, zero=1, nodes=0), broken(2), "the zero field 1, N 0")
@@ -564,7 +564,7 @@ check("lowest-5-record", entry(entry(BENCH, 2, length=0), 8, length=0), broken(5
 check("lowest-6-record", mount(mount(MOUNTS, 3, zero=1), 2, zero=1), broken(6, 2), "mounts 2 and 3 wrong")
 check("lowest-7-record", node(node(LAST, 4, first=1), 3, kind=MAGIC, first=1), broken(7, 3), "nodes 3 and 4 with targets out of range")
 
-says("| 117 EUCLEAN (house) | the table check fails | .. A refusal carries errno, detail and both counts (0 before the walk). Detail is 255 except for unknown bits.")
+says("5.4, 5.5, 7.1", "| 117 EUCLEAN (house) | the table check fails | .. A refusal carries errno, detail and both counts (0 before the walk). Detail is 255 except for unknown bits.")
 over(BENCH, "bench")
 for name, image in [
     ("1", b""),

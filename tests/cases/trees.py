@@ -4,7 +4,7 @@ from image import Tree
 
 
 def bench():
-    """The bench tree, as document 01 has it."""
+    """The bench tree of RULES 13."""
     t = Tree()
     top = t.top()
     lab = t.directory(top, "lab")

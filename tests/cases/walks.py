@@ -13,7 +13,7 @@ LAYERED = trees.layered()
 # ---------------------------------------------------------------------------------------------------------------------------------
 group("The worked table", "The bench tree, handle (0,1).")
 over(BENCH, "bench")
-says("Handle (0,1), flags and resolve 0 unless said. Shown: answer; components, links.")
+says("13.4", "Handle (0,1), flags and resolve 0 unless said. Shown: answer; components, links.")
 call("P1", "cal/tare", found(0, 3, 2, 0))
 call("P2", "pool/run", found(1, 9, 2, 0))
 call("P3", "pool/run", refused(EXDEV, 1, 0), resolve=NO_XDEV)
@@ -36,7 +36,7 @@ call("row-slash", "/", found(0, 0, 0, 0))
 
 # ---------------------------------------------------------------------------------------------------------------------------------
 group("The start and the text", "The bench tree, handle (0,1).")
-says('The root is the handle under IN_ROOT, else mount 0\'s root. A path starting with "/" begins at the root, another at the handle.')
+says("9.2, 9.3", 'The root is the handle under IN_ROOT, else mount 0\'s root. A path starting with "/" begins at the root, another at the handle.')
 call("start-root-of-mount-0", "/lab", found(0, 1, 1, 0))
 call("start-root-from-mount-1", "/", found(0, 0, 0, 0), at=(1, 8))
 call("start-in-root", "/cal/tare", found(0, 3, 2, 0), resolve=IN_ROOT)
@@ -45,12 +45,12 @@ call("start-in-root-of-mount-1", "/run", found(1, 9, 1, 0), at=(1, 8), resolve=I
 call("start-at-handle", "lab", refused(ENOENT, 1, 0))
 call("start-at-handle-of-mount-1", "run", found(1, 9, 1, 0), at=(1, 8))
 
-says("Slashes part components; repeats count as one.")
+says("8.2", "Slashes part components; repeats count as one.")
 call("slashes-repeated", "cal//tare", found(0, 3, 2, 0))
 call("slashes-at-start", "//lab///cal", found(0, 2, 2, 0))
 call("slashes-alone", "///", found(0, 0, 0, 0))
 
-says("A component is last if only slashes follow in its text and in all texts still open. Taking it adds 1 to the components.")
+says("8.7, 9.6", "A component is last if only slashes follow in its text and in all texts still open. Taking it adds 1 to the components.")
 call("last-slash", "cal/", found(0, 2, 1, 0))
 call("last-slashes", "cal///", found(0, 2, 1, 0))
 call("last-file-slash", "cal/tare/", refused(ENOTDIR, 2, 0))
@@ -62,14 +62,14 @@ over(BENCH, "bench")
 
 # ---------------------------------------------------------------------------------------------------------------------------------
 group("One component", "Over `bench`, `mounted`, `layered`, `linked` and `bound`, with handle (0,1) in the bench tree and (0,0) elsewhere.")
-says('".": stay.')
+says("9.7", '".": stay.')
 call("dot", ".", found(0, 1, 1, 0))
 call("dot-counted", "./cal/./tare", found(0, 3, 4, 0))
 call("dot-last", "cal/.", found(0, 2, 2, 0))
 call("dot-slash", "./", found(0, 1, 1, 0))
 call("dot-after-file", "cal/tare/.", refused(ENOTDIR, 2, 0))
 
-says('"..": at the handle, event Escape. Then at the root (or mount 0\'s root): stay.')
+says("9.8a, 9.8b", '"..": at the handle, event Escape. Then at the root (or mount 0\'s root): stay.')
 call("dotdot-at-root", "../..", found(0, 0, 2, 0))
 call("dotdot-at-root-again", "../../../lab", found(0, 1, 4, 0))
 call("dotdot-below-handle", "cal/..", found(0, 1, 2, 0), resolve=BENEATH)
@@ -83,7 +83,7 @@ call("dotdot-root-is-handle", "..", found(0, 0, 1, 0), at=(0, 0))
 call("dotdot-root-is-handle-beneath", "..", refused(EXDEV, 1, 0), at=(0, 0), resolve=BENEATH)
 call("dotdot-after-file", "cal/tare/..", refused(ENOTDIR, 2, 0))
 
-says("At a mount's root: event Cross, climb to the point in the parent mount. Then go to the node's parent, and enter a mount there.")
+says("9.8c, 9.8d, 9.8e", "At a mount's root: event Cross, climb to the point in the parent mount. Then go to the node's parent, and enter a mount there.")
 call("climb", "pool/..", found(0, 1, 2, 0))
 call("climb-from-handle", "..", found(0, 1, 1, 0), at=(1, 8))
 call("climb-from-handle-on", "../cal/tare", found(0, 3, 3, 0), at=(1, 8))
@@ -129,7 +129,7 @@ call("magic-within-mount-2-and-enter", "m/..", found(3, 7, 2, 1), at=(2, 4))
 call("magic-within-mount-2-no-xdev", "m", found(2, 6, 1, 1), at=(2, 4), resolve=NO_XDEV)
 call("magic-within-mount-2-and-enter-no-xdev", "m/..", refused(EXDEV, 2, 1), at=(2, 4), resolve=NO_XDEV)
 
-says('A name: over 255, ENAMETOOLONG; absent, ENOENT; else step to it.')
+says("9.9", 'A name: over 255, ENAMETOOLONG; absent, ENOENT; else step to it.')
 over(BENCH, "bench")
 call("name-absent", "nope", refused(ENOENT, 1, 0))
 call("name-absent-before-more", "cal/nope/x", refused(ENOENT, 2, 0))
@@ -149,7 +149,7 @@ call("name-alike-second", "abcdefgh3ijklmnopqrs", found(0, 2, 1, 0), at=(0, 0))
 call("name-alike-between", "abcdefgh2ijklmnopqrs", refused(ENOENT, 1, 0), at=(0, 0))
 call("name-alike-at-the-end", "abcdefgh1ijklmnopqrt", refused(ENOENT, 1, 0), at=(0, 0))
 
-says("Step or parent covered in the current mount: event Cross, enter that mount's root.")
+says("9.8e, 9.11", "Step or parent covered in the current mount: event Cross, enter that mount's root.")
 over(MOUNTED, "mounted")
 call("enter", "a", found(1, 3, 1, 0), at=(0, 0))
 call("enter-no-xdev", "a", refused(EXDEV, 1, 0), at=(0, 0), resolve=NO_XDEV)
@@ -166,7 +166,7 @@ call("enter-from-mount-2", "a/g/d", found(3, 7, 3, 0), at=(0, 0))
 call("enter-from-mount-3", "a/g/d/i", found(5, 3, 4, 0), at=(0, 0))
 call("enter-not-in-mount-5", "a/g/d/i/c/d", found(5, 5, 6, 0), at=(0, 0))
 
-says("Not last and not a directory: ENOTDIR, before the next component is taken.")
+says("9.5", "Not last and not a directory: ENOTDIR, before the next component is taken.")
 over(LINKED, "linked")
 call("not-directory", "f/x", refused(ENOTDIR, 1, 0), at=(0, 0))
 call("not-directory-before-long-name", "f/" + "n" * 256, refused(ENOTDIR, 1, 0), at=(0, 0), shown="`f/` and a name of 256 bytes")
@@ -175,7 +175,7 @@ call("not-directory-through-link", "way/..", refused(ENOTDIR, 2, 1), at=(0, 0))
 
 # ---------------------------------------------------------------------------------------------------------------------------------
 group("Links", "Over `bench`, `linked` and `mounted`.")
-says("A link that is not last, or is last and followed: the 41st gives ELOOP. Then event Link.")
+says("9.10, 9.13", "A link that is not last, or is last and followed: the 41st gives ELOOP. Then event Link.")
 over(BENCH, "bench")
 call("link-last", "cal/up", found(0, 0, 4, 1))
 call("link-not-last", "cal/up/lab", found(0, 1, 5, 1))
@@ -184,7 +184,7 @@ call("link-no-symlinks", "cal/up", refused(ELOOP, 2, 0), resolve=NO_SYMLINKS)
 call("link-not-last-no-symlinks", "cal/up/lab", refused(ELOOP, 2, 0), resolve=NO_SYMLINKS)
 call("link-magic-no-symlinks", "cal/fd", refused(ELOOP, 2, 0), resolve=NO_SYMLINKS)
 
-says("A magic link: event Magic; under IN_ROOT EXDEV; else stand on the target, entering nothing.")
+says("9.14", "A magic link: event Magic; under IN_ROOT EXDEV; else stand on the target, entering nothing.")
 call("magic", "cal/fd", found(0, 3, 2, 1))
 call("magic-slash", "cal/fd/", refused(ENOTDIR, 2, 1))
 call("magic-not-last", "cal/fd/x", refused(ENOTDIR, 2, 1))
@@ -212,7 +212,7 @@ call("magic-file-in-body", "tomf", found(0, 2, 2, 2), at=(0, 0))
 call("magic-file-in-body-not-last", "tomf/x", refused(ENOTDIR, 2, 2), at=(0, 0))
 over(MOUNTED, "mounted")
 
-says('A body starting with "/": event Jump, go to the root. Then read the body, a relative one from the directory that names the link.')
+says("9.15", 'A body starting with "/": event Jump, go to the root. Then read the body, a relative one from the directory that names the link.')
 call("jump", "abs", found(1, 3, 2, 1), at=(1, 3))
 call("jump-in-root", "abs", refused(ENOENT, 2, 1), at=(1, 3), resolve=IN_ROOT)
 call("relative-body", "a/here", found(1, 7, 3, 1), at=(0, 0))
@@ -230,13 +230,13 @@ call("body-slash-required", "root", found(0, 0, 1, 1), at=(0, 0), flags=O_DIRECT
 call("body-dot", "dot", found(0, 0, 2, 1), at=(0, 0))
 call("body-in-body", "to", found(0, 1, 3, 2), at=(0, 0))
 
-says("Only now does it count as followed; a magic link does once its target is stood on.")
+says("9.14, 9.15, 9.19", "Only now does it count as followed; a magic link does once its target is stood on.")
 over(BENCH, "bench")
 call("counted-after-jump", "cal/abs", refused(ENOENT, 2, 0), mark=True)
 call("counted-after-magic", "cal/fd", refused(EXDEV, 2, 0), resolve=BENEATH)
 call("counted-before-body", "cal/up", refused(ENOENT, 4, 1), mark=True)
 
-says('A last link is followed unless O_NOFOLLOW is set and the given path does not end in "/".')
+says("9.12", 'A last link is followed unless O_NOFOLLOW is set and the given path does not end in "/".')
 call("nofollow", "cal/up", found(0, 4, 2, 0), flags=O_NOFOLLOW | O_PATH)
 call("nofollow-slash", "cal/up/", found(0, 0, 4, 1), flags=O_NOFOLLOW)
 call("nofollow-slash-file", "cal/abs/", refused(ENOTDIR, 5, 1), flags=O_NOFOLLOW)
@@ -248,7 +248,7 @@ call("nofollow-slash-in-body", "chain", found(0, 4, 1, 0), at=(0, 0), flags=O_NO
 call("nofollow-slash-through-two", "to/", found(0, 1, 3, 2), at=(0, 0), flags=O_NOFOLLOW)
 call("nofollow-slash-o-path", "way/", refused(ENOTDIR, 2, 1), at=(0, 0), flags=O_NOFOLLOW | O_PATH)
 
-says('A directory is required by O_DIRECTORY, by a "/" ending the path, or by one ending the body of a followed last link.')
+says("9.4, 9.16, 9.17", 'A directory is required by O_DIRECTORY, by a "/" ending the path, or by one ending the body of a followed last link.')
 call("required-by-flag", "f", refused(ENOTDIR, 1, 0), at=(0, 0), flags=O_DIRECTORY)
 call("required-by-flag-and-there", "d", found(0, 1, 1, 0), at=(0, 0), flags=O_DIRECTORY)
 call("required-by-flag-through-link", "way", refused(ENOTDIR, 2, 1), at=(0, 0), flags=O_DIRECTORY)
@@ -276,7 +276,7 @@ call("not-required-by-absolute-body-of-other-link", "absd/f", found(0, 2, 3, 1),
 call("not-required-by-body-of-other-link", "sub/f", found(0, 2, 3, 1), at=(0, 0))
 call("not-required-without-slash", "way", found(0, 2, 2, 1), at=(0, 0))
 
-says("At the end: required and not a directory, ENOTDIR; else a link without O_PATH, ELOOP.")
+says("9.20", "At the end: required and not a directory, ENOTDIR; else a link without O_PATH, ELOOP.")
 call("end-link", "way", refused(ELOOP, 1, 0), at=(0, 0), flags=O_NOFOLLOW)
 call("end-link-o-path", "way", found(0, 5, 1, 0), at=(0, 0), flags=O_NOFOLLOW | O_PATH)
 call("end-link-required", "way", refused(ENOTDIR, 1, 0), at=(0, 0), flags=O_NOFOLLOW | O_DIRECTORY)
@@ -290,7 +290,7 @@ call("end-file-o-path", "cal/tare", found(0, 3, 2, 0), flags=O_PATH)
 
 # ---------------------------------------------------------------------------------------------------------------------------------
 group("Forbidden events", "Each row with every set of its restrictions: the leftmost one set gives the error.")
-says("| Start, Escape | mark ENOENT; BENEATH EXDEV |")
+says("10.3", "| Start, Escape | mark ENOENT; BENEATH EXDEV |")
 call("start-free", "/lab", found(0, 1, 1, 0))
 call("start-mark", "/lab", refused(ENOENT, 0, 0), mark=True)
 call("start-beneath", "/lab", refused(EXDEV, 0, 0), resolve=BENEATH)
@@ -308,13 +308,13 @@ call("escape-others", "..", found(0, 0, 1, 0), resolve=NO_XDEV | NO_MAGICLINKS |
 call("escape-mark-in-root", "..", refused(ENOENT, 1, 0), mark=True, resolve=IN_ROOT)
 call("escape-before-cross", "..", refused(ENOENT, 1, 0), at=(1, 8), mark=True, resolve=NO_XDEV)
 
-says("| Cross | NO_XDEV EXDEV |")
+says("10.3", "| Cross | NO_XDEV EXDEV |")
 call("cross-free", "pool", found(1, 8, 1, 0))
 call("cross-no-xdev", "pool", refused(EXDEV, 1, 0), resolve=NO_XDEV)
 call("cross-others", "pool", found(1, 8, 1, 0), mark=True, resolve=BENEATH | NO_MAGICLINKS | NO_SYMLINKS)
 call("cross-back-others", "pool/..", found(0, 1, 2, 0), mark=True, resolve=BENEATH | NO_MAGICLINKS | NO_SYMLINKS)
 
-says("| Link | NO_SYMLINKS ELOOP |")
+says("10.3", "| Link | NO_SYMLINKS ELOOP |")
 over(MOUNTED, "mounted")
 call("link-free", "here", found(1, 7, 2, 1), at=(1, 3))
 call("link-by-no-symlinks", "here", refused(ELOOP, 1, 0), at=(1, 3), resolve=NO_SYMLINKS)
@@ -323,7 +323,7 @@ call("link-before-jump", "abs", refused(ELOOP, 1, 0), at=(1, 3), mark=True, reso
 call("link-before-magic", "out", refused(ELOOP, 1, 0), at=(1, 3), mark=True, resolve=NO_SYMLINKS)
 call("link-before-magic-in-root", "in", refused(ELOOP, 1, 0), at=(1, 3), resolve=NO_SYMLINKS | IN_ROOT)
 
-says("| Magic | mark ENOENT (house); NO_MAGICLINKS ELOOP; NO_XDEV EXDEV if the target's mount is not the current one; BENEATH EXDEV |")
+says("10.3", "| Magic | mark ENOENT (house); NO_MAGICLINKS ELOOP; NO_XDEV EXDEV if the target's mount is not the current one; BENEATH EXDEV |")
 for label, mark, resolve, answer in [
     ("free", False, 0, found(1, 3, 1, 1)),
     ("beneath", False, BENEATH, refused(EXDEV, 1, 0)),
@@ -352,7 +352,7 @@ call("magic-in-root-mark", "in", refused(ENOENT, 1, 0), at=(1, 3), mark=True, re
 call("magic-in-root-no-magiclinks", "in", refused(ELOOP, 1, 0), at=(1, 3), resolve=IN_ROOT | NO_MAGICLINKS)
 call("magic-in-root-no-xdev", "in", refused(EXDEV, 1, 0), at=(1, 3), resolve=IN_ROOT | NO_XDEV)
 
-says("| Jump | mark ENOENT; BENEATH EXDEV; NO_XDEV EXDEV if the current mount is not the root's |")
+says("10.3", "| Jump | mark ENOENT; BENEATH EXDEV; NO_XDEV EXDEV if the current mount is not the root's |")
 for label, mark, resolve, answer in [
     ("free", False, 0, found(1, 3, 2, 1)),
     ("no-xdev", False, NO_XDEV, refused(EXDEV, 1, 0)),
@@ -376,8 +376,8 @@ call("jump-body-slash-beneath", "root", refused(EXDEV, 1, 0), at=(0, 1), resolve
 call("jump-body-slash-mark", "root", refused(ENOENT, 1, 0), at=(0, 1), mark=True)
 
 # ---------------------------------------------------------------------------------------------------------------------------------
-group("Slips", "The slips that document 01 lists; unknown bits are below.")
-says('Telling the handle by node alone: a bind mount shows the same node elsewhere, and ".." there is no escape.')
+group("Slips", "The slips of RULES 14; unknown bits are below.")
+says("14.1", 'Telling the handle by node alone: a bind mount shows the same node elsewhere, and ".." there is no escape.')
 over(BOUND, "bound")
 call("slip-handle-by-node", "bind/lab/..", found(1, 0, 3, 0), resolve=BENEATH)
 call("slip-handle-by-node-marked", "bind/lab/..", found(1, 0, 3, 0), mark=True)
@@ -385,7 +385,7 @@ call("slip-handle-escape-still", "bind/../..", refused(EXDEV, 3, 0), resolve=BEN
 call("slip-cover-by-node", "bind/lab/bind", found(1, 2, 3, 0))
 call("slip-covered-handle-by-node", ".", found(1, 2, 1, 0), at=(1, 2))
 
-says('Folding "pool/.." as text, so that a link before ".." is lost.')
+says("14.2", 'Folding "pool/.." as text, so that a link before ".." is lost.')
 over(BENCH, "bench")
 call("slip-folded-link", "cal/up/..", found(0, 0, 5, 1))
 call("slip-folded-file", "cal/abs/..", refused(ENOTDIR, 5, 1))
@@ -393,12 +393,12 @@ call("slip-folded-count", "pool/../pool/../cal", found(0, 2, 5, 0))
 call("slip-folded-absent", "nope/../cal", refused(ENOENT, 1, 0))
 call("slip-folded-cross", "pool/..", refused(EXDEV, 1, 0), resolve=NO_XDEV)
 
-says("Applying NO_SYMLINKS to an unfollowed last link.")
+says("14.3", "Applying NO_SYMLINKS to an unfollowed last link.")
 call("slip-no-symlinks", "cal/abs", found(0, 5, 2, 0), flags=O_PATH | O_NOFOLLOW, resolve=NO_SYMLINKS)
 call("slip-no-symlinks-magic", "cal/fd", found(0, 10, 2, 0), flags=O_PATH | O_NOFOLLOW, resolve=NO_SYMLINKS | NO_MAGICLINKS)
 call("slip-no-symlinks-slash", "cal/up/", refused(ELOOP, 2, 0), flags=O_PATH | O_NOFOLLOW, resolve=NO_SYMLINKS)
 
-says("NO_XDEV refusing an absolute given path.")
+says("14.5", "NO_XDEV refusing an absolute given path.")
 call("slip-no-xdev-start", "/lab", found(0, 1, 1, 0), at=(1, 8), resolve=NO_XDEV)
 call("slip-no-xdev-start-slash", "/", found(0, 0, 0, 0), at=(1, 8), resolve=NO_XDEV)
 call("slip-no-xdev-start-then-cross", "/lab/pool", refused(EXDEV, 2, 0), at=(1, 8), resolve=NO_XDEV)

@@ -1,4 +1,4 @@
-// The checks of the directory handle, whose numbers may be any.
+// The checks of the directory handle (RULES 7.4), whose numbers may be any.
 use checks::Check;
 use checks::refuse;
 use image::records::mount_root;

@@ -1,4 +1,4 @@
-// What refuses a call before its walk, once its table is accepted: open_how, path and handle, in the order of document 01.
+// What refuses a call before its walk, once its table is accepted: open_how, path and handle, in the order of RULES 7.1.
 pub mod handle;
 pub mod path;
 

@@ -1,4 +1,4 @@
-// The checks of the given path.
+// The checks of the given path (RULES 7.3).
 use checks::Check;
 use checks::refuse;
 use model::Errno;

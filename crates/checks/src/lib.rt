@@ -12,7 +12,7 @@ pub enum Check {
     Refused(Refusal),
 }
 
-// Both counts are 0 before the walk, and only an unknown bit has a detail.
+// Both counts are 0 before the walk, and only an unknown bit has a detail (RULES 5.4, 5.5).
 pub fn refuse(errno: Errno) -> Check
     ensures { λ r. ⌜ r ≡ Check.Refused (refusal errno notWalked) ⌝ }
 {

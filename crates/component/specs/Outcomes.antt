@@ -36,7 +36,7 @@ unlimited R (fail e) = Stop e
 unlimited R (go es p) = stopOr (forbidAny R es) (Go p)
 unlimited R (follow es l) = stopOr (forbidAny R es) (landingOutcome l)
 
--- and with a number of links followed so far: "the 41st gives ELOOP. Then event Link."
+-- and with a number of links followed so far: "the 41st gives ELOOP. Then event Link." (RULES 9.13)
 abbrev pub outcome : Restrictions → ℕ → Step → Outcome
 outcome R links (fail e) = Stop e
 outcome R links (go es p) = stopOr (forbidAny R es) (Go p)

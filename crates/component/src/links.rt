@@ -90,7 +90,7 @@ fn follow_symbolic(image: &[u8], c: Counts, k: Request, p: Place, n: usize) -> O
     Outcome::Read(n, root)
 }
 
-// "A link that is not last, or is last and followed"
+// "A link that is not last, or is last and followed" (RULES 9.10)
 fn is_followed(last: bool, follow: bool) -> bool
     ensures { λ r. ⌜ r ≡ not last || follow ⌝ }
 {

@@ -1,4 +1,4 @@
-// Moves with no link in them: entering a mount, and "..".
+// Moves with no link in them: entering a mount, and ".." (RULES 9.8, 9.11).
 use crate::Outcome;
 use image::records::mount_parent;
 use image::records::mount_point;

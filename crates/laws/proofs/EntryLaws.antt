@@ -92,7 +92,7 @@ module _ (t : Tree) (directories : DirectoriesHold t) where
   unfolding ascends
   later-ascends n e h l = rw (later-follows n e h l)
 
-  -- "stands in that directory's parent": the directory that holds the entry
+  -- "stands in that directory's parent" (RULES 4.5f): the directory that holds the entry
   pub directory-stands : (n e : ℕ) → Held t n e → isDirectory t (t .entryNode e) ≡ true
       → standsInParent t e ≡ (eqb (t .parent (t .entryNode e)) n && ltb (t .parent (t .entryNode e)) (t .entryNode e))
   unfolding standsInParent

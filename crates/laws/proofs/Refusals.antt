@@ -74,7 +74,7 @@ handle-inside t h e =
     let b = both (ltb (h .mount) (t .mounts)) (ltb (h .node) (t .nodes)) (not-false _ (passes (not (ltb (h .mount) (t .mounts) && ltb (h .node) (t .nodes))) Ebadf _ e .0)) in
     record { mount-below = ltb-true _ _ (b .0); node-below = ltb-true _ _ (b .1) }
 
--- "both counts (0 before the walk)"
+-- "both counts (0 before the walk)" (RULES 5.4)
 abbrev pub Uncounted : Option Refusal → Type 0
 Uncounted none = Unit {0}
 Uncounted (some r) = r .progress ≡ notWalked

@@ -1,4 +1,4 @@
--- "The bench tree" as an image in bytes, document 01's worked calls on it with their answers, and rows of our own beside them.
+-- The bench tree (RULES 13) as an image in bytes, its worked calls with their answers, and further rows beside them.
 use Prim.Native.Nat.{ℕ, zero, suc, _+_, _-_, _*_, _^_}
 use Prim.Native.String.{String}
 use mathlib.Core.Bool.{Bool, true, false, cond}
@@ -17,7 +17,7 @@ use Rattle.model.specs.declared.Errno.the-variants.{Einval, Enoent, Enot
 use Rattle.model.specs.declared.Answer.{Answer}
 use Rattle.model.specs.declared.Answer.the-variants.{Found, Refused}
 
--- bytes as document 01 writes them: two hexadecimal digits each, a space between
+-- bytes as two hexadecimal digits each, a space between
 unfoldable pub digit : ℕ → ℕ
 digit c = cond (ltb c 65) (c - 48) (c - 55)
 
@@ -30,7 +30,7 @@ hexBytes (a ∷ (b ∷ (space ∷ s))) = (16 * digit a + digit b) ∷ hexBytes s
 unfoldable pub hex : String → List ℕ
 hex s = hexBytes (ascii s)
 
--- "Smallest image, whole (40 bytes)"
+-- "Smallest image, whole (40 bytes)" (RULES 2.9)
 unfoldable pub smallest : List ℕ
 smallest =
     hex "54 4F 43 31 01 00 01 00 00 00 00 00 00 00 00 00 28 00 00 00 01 00 00 00 00 00 00 00 00 00 00 00 00 00 00 00 00 00 00 00"
@@ -96,7 +96,7 @@ pub record Case : Type 0 where
 abbrev pub case : List ℕ → Call → Answer → Case
 case image c a = record { image = image; call = c; expected = a }
 
--- "Handle (0,1), flags and resolve 0 unless said."
+-- "Handle (0,1), flags and resolve 0 unless said." (RULES 13.4)
 abbrev pub call : String → ℕ → ℕ → Answer → Case
 call path flags bits = case bench (callAt 0 1 false (ascii path) flags bits)
 
@@ -110,7 +110,7 @@ at m n c l = Found (record { place = record { mount = m; node = n }; progress = 
 abbrev pub error : Errno → ℕ → ℕ → Answer
 error e c l = refused e (record { components = c; links = l })
 
--- P1 to P12, P6 as three rows, and the unnumbered rows
+-- P1 to P12, P6 as three rows, and the unnumbered rows (RULES 13.4)
 unfoldable pub workedTable : List Case
 workedTable =
     call "cal/tare" 0 0 (at 0 3 2 0)
@@ -156,7 +156,7 @@ magicPath (suc n) = ascii "m/" ++ magicPath n
 abbrev pub magicCall : ℕ → Answer → Case
 magicCall n = case magicLoop (callAt 0 0 false (magicPath n) 0 0)
 
--- Rows of our own, for slips that document 01's rows do not show: the handle told by node alone; mark and BENEATH swapped in a row;
+-- Further rows, for slips (RULES 14) that those above do not show: the handle told by node alone; mark and BENEATH swapped in a row;
 -- NO_SYMLINKS at an unfollowed last link; an unknown bit above 31; NO_XDEV at an absolute given path; ".." folded as text; magic
 -- links not counted against the 40.
 unfoldable pub ownTable : List Case

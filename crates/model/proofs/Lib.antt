@@ -1,4 +1,4 @@
--- Document 01's worked calls, and the theorem that shows the definitions to be its own on them. The laws over the definitions are the
+-- The worked calls of RULES 13.4, and the theorem that the definitions give their answers. The laws over the definitions are the
 -- crate laws, the theorems the crate theorems.
 pub mod BenchTree
 pub mod WorkedTable

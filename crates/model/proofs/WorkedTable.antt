@@ -1,4 +1,4 @@
--- Document 01's worked calls, each through the whole of `resolve` on real bytes, as one theorem, with the places that some of the walks
+-- The worked calls of RULES 13.4, each through the whole of `resolve` on real bytes, as one theorem, with the places that some of the walks
 -- stand on; and the two images accepted.
 -- Assumes nothing.
 use mathlib.Core.List.{map}

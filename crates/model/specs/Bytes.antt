@@ -9,7 +9,7 @@ use mathlib.Core.Option.{Option, none, some}
 use lib.Dec.{eqb, ltb}
 use lib.ListN.{getD, take, drop}
 
--- "Little-endian (house)": the number that the width bytes at a position stand for, for every width
+-- "Little-endian (house)" (RULES 2.1): the number that the width bytes at a position stand for, for every width
 unfoldable pub field : ℕ → List ℕ → ℕ → ℕ
 field zero s at = 0
 field (suc width) s at = getD s at 0 + 256 * field width s (at + 1)
@@ -37,7 +37,7 @@ sameBytes [] (y ∷ t) = false
 sameBytes (x ∷ s) [] = false
 sameBytes (x ∷ s) (y ∷ t) = eqb x y && sameBytes s t
 
--- strictly before in bytewise order: at the first difference the lower byte, or the end, comes first
+-- strictly before in bytewise order: at the first difference the lower byte, or the end, comes first (RULES 3.8)
 unfoldable pub before : List ℕ → List ℕ → Bool
 before [] [] = false
 before [] (y ∷ t) = true

@@ -1,4 +1,4 @@
--- The handle check.
+-- The handle check (RULES 7.4).
 use mathlib.Core.Bool.{Bool, not, _&&_, _||_}
 use mathlib.Core.Option.{Option, none}
 use lib.Dec.{ltb}
@@ -9,11 +9,11 @@ use Rattle.model.specs.declared.Handle.{Handle}
 use Rattle.model.specs.declared.Refusal.{Refusal}
 use Rattle.model.specs.declared.Errno.the-variants.{Ebadf, Enotdir}
 
--- the place that a handle stands for
+-- the place that a handle stands for (RULES 5.1)
 abbrev pub placeOf : Handle → Place
 placeOf h = record { mount = h .mount; node = h .node }
 
--- "In this order: number out of range: EBADF; not a directory: ENOTDIR; not under the mount's root, or "covered": EBADF."
+-- "In this order: number out of range: EBADF; not a directory: ENOTDIR; not under the mount's root, or "covered": EBADF." (RULES 7.4)
 unfoldable pub handleRefused : Tree → Handle → Option Refusal
 handleRefused t h =
     refuseIf (not (ltb (h .mount) (t .mounts) && ltb (h .node) (t .nodes))) Ebadf

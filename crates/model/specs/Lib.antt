@@ -1,5 +1,5 @@
--- What a reader has to believe, in document 01's order: what the resolver is given and what it answers. Theorems over these
--- definitions are in proofs/.
+-- What a reader has to believe, in the order of docs/RULES.md: what the resolver is given and what it answers. A comment quotes the wording that a
+-- definition was written from, with the number of the rule. Theorems over these definitions are in proofs/.
 pub mod Bytes
 pub mod Tree
 pub mod Answers

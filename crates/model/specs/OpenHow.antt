@@ -1,4 +1,4 @@
--- The open_how check: "open_how (000): u64 flags, u16 mode, 6 padding bytes, u64 resolve."
+-- The open_how check (RULES 6): "open_how: u64 flags, u16 mode, 6 padding bytes, u64 resolve." (RULES 6.1)
 use Prim.Native.Nat.{ℕ, _+_, _-_, _^_}
 use mathlib.Core.Bool.{Bool, not, _&&_, _||_}
 use mathlib.Core.List.{List}
@@ -22,7 +22,7 @@ paddingOf how = field 6 how 10
 unfoldable pub resolveOf : List ℕ → ℕ
 resolveOf how = field 8 how 16
 
--- "Flags known: O_DIRECTORY 0x10000, O_NOFOLLOW 0x20000, O_PATH 0x200000, O_CLOEXEC 0x80000 (no effect)"
+-- "Flags known: O_DIRECTORY 0x10000, O_NOFOLLOW 0x20000, O_PATH 0x200000, O_CLOEXEC 0x80000 (no effect)" (RULES 6.3)
 abbrev pub O-DIRECTORY : ℕ
 O-DIRECTORY = 0x10000
 
@@ -38,7 +38,7 @@ O-CLOEXEC = 0x80000
 abbrev pub knownFlags : ℕ
 knownFlags = O-DIRECTORY + O-NOFOLLOW + O-PATH + O-CLOEXEC
 
--- "Resolve: NO_XDEV 1, NO_MAGICLINKS 2, NO_SYMLINKS 4, BENEATH 8, IN_ROOT 16."
+-- "Resolve: NO_XDEV 1, NO_MAGICLINKS 2, NO_SYMLINKS 4, BENEATH 8, IN_ROOT 16." (RULES 6.4)
 abbrev pub NO-XDEV : ℕ
 NO-XDEV = 1
 
@@ -57,11 +57,11 @@ IN-ROOT = 16
 abbrev pub knownResolve : ℕ
 knownResolve = NO-XDEV + NO-MAGICLINKS + NO-SYMLINKS + BENEATH + IN-ROOT
 
--- "An unknown bit is named by its number, lowest first": the lowest of the 64 bits that is set and not known
+-- "An unknown bit is named by its number, lowest first" (RULES 6.5, 6.6): the lowest of the 64 bits that is set and not known
 unfoldable pub unknownBit : ℕ → ℕ → Option ℕ
 unknownBit known x = find (λ b. has (2 ^ b) x && not (has (2 ^ b) known)) 0 64
 
--- "detail b for flags bit b, 64 + b for resolve bit b"
+-- "detail b for flags bit b, 64 + b for resolve bit b" (RULES 6.5, 6.6)
 abbrev pub refuseUnknown : ℕ → Option ℕ → Option Refusal
 refuseUnknown base none = none
 refuseUnknown base (some b) = some (unknown (base + b))
@@ -72,29 +72,29 @@ flagsRefused flags = refuseUnknown 0 (unknownBit knownFlags flags)
 abbrev pub resolveRefused : ℕ → Option Refusal
 resolveRefused resolve = refuseUnknown 64 (unknownBit knownResolve resolve)
 
--- "over 24 with a byte after the 24th not zero"
+-- "over 24 with a byte after the 24th not zero" (RULES 6.2)
 unfoldable pub tailSet : List ℕ → Bool
 tailSet how = isSome (find (λ i. not (eqb (getD how i 0) 0)) 24 (length how - 24))
 
--- "open_how length (too short, too long, tail)"
+-- "open_how length (too short, too long, tail)" (RULES 6.2)
 unfoldable pub lengthRefused : List ℕ → Option Refusal
 lengthRefused how =
     refuseIf (ltb (length how) 24) Einval
     (refuseIf (ltb 4096 (length how)) E2big
     (refuseIf (tailSet how) E2big none))
 
--- "both BENEATH and IN_ROOT"
+-- "both BENEATH and IN_ROOT" (RULES 6.7)
 abbrev pub scopesRefused : ℕ → Option Refusal
 scopesRefused resolve = refuseIf (has BENEATH resolve && has IN-ROOT resolve) Einval none
 
--- "mode or padding not zero"
+-- "mode or padding not zero" (RULES 6.8)
 unfoldable pub modeSet : List ℕ → Bool
 modeSet how = not (eqb (modeOf how) 0) || not (eqb (paddingOf how) 0)
 
 abbrev pub modeRefused : List ℕ → Option Refusal
 modeRefused how = refuseIf (modeSet how) Einval none
 
--- "Order: .. open_how length (too short, too long, tail), flags, resolve, both scopes, mode, .."
+-- "Order: .. open_how length (too short, too long, tail), flags, resolve, both scopes, mode, .." (RULES 6.10)
 unfoldable pub howRefused : List ℕ → Option Refusal
 howRefused how =
     orElse (lengthRefused how)

@@ -21,7 +21,7 @@ use Rattle.model.specs.declared.Answer.the-variants.{Refused}
 use Rattle.model.specs.declared.Verdict.{Verdict}
 use Rattle.model.specs.declared.Verdict.the-variants.{Accepted, Broken}
 
--- A call over an image: a directory handle, the bytes of the path and those of the open_how.
+-- A call over an image: a directory handle, the bytes of the path and those of the open_how (RULES 5.1).
 pub record Call : Type 0 where
   pub handle : Handle
   pub path : List ℕ
@@ -30,12 +30,12 @@ pub record Call : Type 0 where
 abbrev pub callOf : Handle → List ℕ → List ℕ → Call
 callOf h path how = record { handle = h; path = path; how = how }
 
--- "117 EUCLEAN (house): the table check fails"
+-- "117 EUCLEAN (house): the table check fails" (RULES 5.7, 7.1)
 abbrev pub refusedTable : Verdict → Option Refusal
 refusedTable Accepted = none
 refusedTable (Broken rule r) = some (refusal Euclean notWalked)
 
--- "Order: table, open_how length .., flags, resolve, both scopes, mode, path too long, path empty, zero byte, handle, walk."
+-- "Order: table, open_how length .., flags, resolve, both scopes, mode, path too long, path empty, zero byte, handle, walk." (RULES 7.1, 7.5)
 -- "It is checked for every path." of the handle
 unfoldable pub refusedAfterTable : List ℕ → Call → Option Refusal
 refusedAfterTable image call = orElse (howRefused (call .how)) (orElse (pathRefused (call .path)) (handleRefused (treeOf image) (call .handle)))
@@ -43,7 +43,7 @@ refusedAfterTable image call = orElse (howRefused (call .how)) (orElse (pathRefu
 unfoldable pub refusedBefore : List ℕ → Call → Option Refusal
 refusedBefore image call = orElse (refusedTable (tableCheck image)) (refusedAfterTable image call)
 
--- the restrictions that a mark and the bits of resolve set, and so those that a call sets
+-- the restrictions that a mark and the bits of resolve set, and so those that a call sets (RULES 10.2)
 abbrev pub restrictionsBy : Bool → ℕ → Restrictions
 restrictionsBy marked bits mark = marked
 restrictionsBy marked bits beneath = has BENEATH bits
@@ -54,8 +54,8 @@ restrictionsBy marked bits noMagiclinks = has NO-MAGICLINKS bits
 unfoldable pub restrictions : Call → Restrictions
 restrictions call = restrictionsBy (call .handle .mark) (resolveOf (call .how))
 
--- "The root is the handle under IN_ROOT, else mount 0's root." "A last link is followed unless O_NOFOLLOW is set and the given
--- path does not end in "/".": what a handle, flags and resolve ask, and whether the path ends in "/", and so what a call asks
+-- "The root is the handle under IN_ROOT, else mount 0's root." (RULES 9.2) "A last link is followed unless O_NOFOLLOW is set and the given
+-- path does not end in "/"." (RULES 9.12): what a handle, flags and resolve ask, and whether the path ends in "/", and so what a call asks
 abbrev pub requestBy : List ℕ → Handle → ℕ → ℕ → Bool → Request
 requestBy image h flags bits slash = record {
   tree = treeOf image;
@@ -69,7 +69,7 @@ requestBy image h flags bits slash = record {
 unfoldable pub requestOf : List ℕ → Call → Request
 requestOf image call = requestBy image (call .handle) (flagsOf (call .how)) (resolveOf (call .how)) (endsInSlash (call .path))
 
--- "A directory is required by O_DIRECTORY, by a "/" ending the path, .."
+-- "A directory is required by O_DIRECTORY, by a "/" ending the path, .." (RULES 9.4)
 unfoldable pub traceOf : List ℕ → Call → Trace
 traceOf image call =
     walkPath (requestOf image call) (has O-DIRECTORY (flagsOf (call .how)) || endsInSlash (call .path)) (call .path)
@@ -78,12 +78,12 @@ abbrev pub unlessRefused : Option Refusal → Answer → Answer
 unlessRefused none a = a
 unlessRefused (some r) a = Refused r
 
--- What the resolver answers: the refusal before the walk, else the walk's answer under the restrictions set.
+-- What the resolver answers: the refusal before the walk, else the walk's answer under the restrictions set (RULES 12.2).
 unfoldable pub resolve : List ℕ → Call → Answer
 resolve image call =
     unlessRefused (refusedBefore image call) (answer (restrictions call) (traceOf image call))
 
--- the places that a call's walk stands on; a call refused before the walk stands on none
+-- the places that a call's walk stands on; a call refused before the walk stands on none (RULES 9.21)
 unfoldable pub placesOf : List ℕ → Call → List Place
 placesOf image call =
     ifNone (refusedBefore image call) (stoodOn (restrictions call) (traceOf image call))

@@ -10,7 +10,7 @@ use Rattle.model.specs.declared.State.{State}
 use Rattle.model.specs.declared.Errno.{Errno}
 use Rattle.model.specs.declared.Answer.{Answer}
 
--- A walk between two components: how many links it may still follow, which components are pending, and its state.
+-- A walk between two components (RULES 9.1): how many links it may still follow, which components are pending, and its state.
 pub record Configuration : Type 0 where
   pub links : ℕ
   pub pending : List Component
@@ -36,7 +36,7 @@ abbrev pub failedBy : Option Errno → State → Onward → Onward
 failedBy none s next = next
 failedBy (some e) s next = failed e s
 
--- "tried left to right over all restrictions set": a transition under them fails at the first of its events that they forbid
+-- "tried left to right over all restrictions set" (RULES 10.4): a transition under them fails at the first of its events that they forbid
 abbrev pub restricted : Restrictions → ℕ → List Component → Transition → Onward
 restricted R links pending t = failedBy (forbidAny R (t .events)) (t .met) (nextBy links pending (t .turn))
 

@@ -1,5 +1,5 @@
 -- A walk's trace: what happens on it, with no restriction applied. Restrictions only read the trace, so all that demand 3
--- compares is one trace read under two sets of restrictions.
+-- (RULES 12.3) compares is one trace read under two sets of restrictions.
 use mathlib.Core.Bool.{Bool, true, false, cond}
 use mathlib.Core.List.{List, [], _∷_, _++_}
 use mathlib.Core.Option.{Option, none, some}
@@ -11,13 +11,13 @@ use Rattle.model.specs.declared.Errno.{Errno}
 use Rattle.model.specs.declared.Errno.the-variants.{Enoent, Eloop, Exdev}
 use Rattle.model.specs.declared.Answer.{Answer}
 
--- The events, each with what the conditions in its row ask: for a magic link, that the target's mount is not the current one;
+-- The events (RULES 10.1), each with what the conditions in its row ask: for a magic link, that the target's mount is not the current one;
 -- for a jump, that the current mount is not the root's.
 pub data Event : Type 0 where
   Start Escape Cross Link : Event
   Magic Jump : Bool → Event
 
--- the five restrictions: the handle's mark, and four bits of resolve
+-- the five restrictions: the handle's mark, and four bits of resolve (RULES 10.2)
 pub data Restriction : Type 0 where
   mark beneath noXdev noSymlinks noMagiclinks : Restriction
 
@@ -25,7 +25,7 @@ pub data Restriction : Type 0 where
 abbrev pub Restrictions : Type 0
 Restrictions = Restriction → Bool
 
--- What happens on a walk: it ends with an answer, meets an event with the counts reached there, or stands on a place.
+-- What happens on a walk: it ends with an answer, meets an event with the counts reached there, or stands on a place (RULES 9.21).
 pub data Trace : Type 0 where
   stop : Answer → Trace
   meet : Event → Progress → Trace → Trace
@@ -45,7 +45,7 @@ abbrev pub given : Bool → Entry → List Entry
 given true x = x ∷ []
 given false x = []
 
--- the table of forbidden events, each row from left to right
+-- the table of forbidden events, each row from left to right (RULES 10.3)
 unfoldable pub row : Event → List Entry
 row Start = (mark, Enoent) ∷ (beneath, Exdev) ∷ []
 row Escape = (mark, Enoent) ∷ (beneath, Exdev) ∷ []
@@ -54,12 +54,12 @@ row Link = (noSymlinks, Eloop) ∷ []
 row (Magic elsewhere) = (mark, Enoent) ∷ (noMagiclinks, Eloop) ∷ (given elsewhere (noXdev, Exdev) ++ ((beneath, Exdev) ∷ []))
 row (Jump elsewhere) = (mark, Enoent) ∷ (beneath, Exdev) ∷ given elsewhere (noXdev, Exdev)
 
--- "tried left to right over all restrictions set": the error of the first entry whose restriction is set
+-- "tried left to right over all restrictions set" (RULES 10.4): the error of the first entry whose restriction is set
 unfoldable pub firstSet : Restrictions → List Entry → Option Errno
 firstSet R [] = none
 firstSet R (x ∷ xs) = cond (R (x .0)) (some (x .1)) (firstSet R xs)
 
--- the error that an event gives under a set of restrictions, if they forbid it
+-- the error that an event gives under a set of restrictions, if they forbid it (RULES 10.8)
 unfoldable pub forbids : Restrictions → Event → Option Errno
 forbids R e = firstSet R (row e)
 
@@ -73,7 +73,7 @@ refusedBy none p later = later
 refusedBy (some e) p later = refused e p
 
 -- A trace's answer under a set of restrictions: the refusal of the first event that they forbid, "detail 255, and all else that
--- a refusal carries is as it stands at the event", else the answer that the trace ends with.
+-- a refusal carries is as it stands at the event" (RULES 10.4), else the answer that the trace ends with.
 unfoldable pub answer : Restrictions → Trace → Answer
 answer R (stop a) = a
 answer R (stand p later) = answer R later

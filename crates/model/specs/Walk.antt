@@ -1,4 +1,4 @@
--- "The walk": its trace, one component at a time.
+-- "The walk" (RULES 9): its trace, one component at a time.
 use Prim.Native.Nat.{ℕ, zero, suc, _+_}
 use mathlib.Core.Bool.{Bool, true, false, cond, not, _&&_, _||_}
 use mathlib.Core.List.{List, [], _∷_, _++_}
@@ -32,7 +32,7 @@ placeAt m n = record { mount = m; node = n }
 unfoldable pub samePlace : Place → Place → Bool
 samePlace p q = eqb (p .mount) (q .mount) && eqb (p .node) (q .node)
 
--- the root of a mount, and its point in the parent mount
+-- the root of a mount, and its point in the parent mount (RULES 3.6)
 unfoldable pub rootOf : Tree → ℕ → Place
 rootOf t m = placeAt m (t .mountRoot m)
 
@@ -54,7 +54,7 @@ abbrev pub afterIf : Bool → Event → Move → Move
 afterIf true e m = after e m
 afterIf false e m = m
 
--- "Step or parent covered in the current mount: event Cross, enter that mount's root."
+-- "Step or parent covered in the current mount: event Cross, enter that mount's root." (RULES 9.8e, 9.11)
 abbrev pub enterBy : Tree → Place → Option ℕ → Move
 enterBy t p none = stayAt p
 enterBy t p (some m) = after Cross (stayAt (rootOf t m))
@@ -62,22 +62,22 @@ enterBy t p (some m) = after Cross (stayAt (rootOf t m))
 unfoldable pub enter : Tree → Place → Move
 enter t p = enterBy t p (mountOn t p)
 
--- "Then go to the node's parent, and enter a mount there."
+-- "Then go to the node's parent, and enter a mount there." (RULES 9.8d, 9.8e)
 unfoldable pub toParent : Tree → Place → Move
 toParent t p = enter t (placeAt (p .mount) (t .parent (p .node)))
 
--- "At a mount's root: event Cross, climb to the point in the parent mount."
+-- "At a mount's root: event Cross, climb to the point in the parent mount." (RULES 9.8c)
 unfoldable pub climb : Tree → Place → Move
 climb t p =
     cond (eqb (p .node) (t .mountRoot (p .mount)))
     (after Cross (toParent t (pointOf t (p .mount))))
     (toParent t p)
 
--- "Then at the root (or mount 0's root): stay."
+-- "Then at the root (or mount 0's root): stay." (RULES 9.8b)
 unfoldable pub atTop : Request → Place → Bool
 atTop a p = samePlace p (a .root) || samePlace p (rootOf (a .tree) 0)
 
--- "..": at the handle, event Escape."
+-- "..": at the handle, event Escape." (RULES 9.8a)
 unfoldable pub goUp : Request → Place → Move
 goUp a p = afterIf (samePlace p (a .handle)) Escape (cond (atTop a p) (stayAt p) (climb (a .tree) p))
 
@@ -94,14 +94,14 @@ pub data Step : Type 0 where
   go : List Event → Place → Step
   follow : List Event → Landing → Step
 
--- "Then event Link. A magic link: event Magic; under IN_ROOT EXDEV; else stand on the target, entering nothing."
+-- "Then event Link. A magic link: event Magic; under IN_ROOT EXDEV; else stand on the target, entering nothing." (RULES 9.13, 9.14)
 unfoldable pub magicLink : Request → Place → ℕ → Step
 magicLink a p n =
     follow (Link ∷ Magic (not (eqb (a .tree .first n) (p .mount))) ∷ [])
     (cond (a .inRoot) outside (target (placeAt (a .tree .first n) (a .tree .count n))))
 
 -- "A body starting with "/": event Jump, go to the root. Then read the body, a relative one from the directory that names the
--- link."
+-- link." (RULES 9.15)
 unfoldable pub symbolicLink : Request → Place → ℕ → Step
 symbolicLink a p n =
     cond (absolute (a .tree .body n))
@@ -115,30 +115,30 @@ followLink a p n = cond (eqb (a .tree .kind n) 4) (magicLink a p n) (symbolicLin
 abbrev pub along : Move → Step
 along m = go (m .events) (m .place)
 
--- "A link that is not last, or is last and followed"; any other node is stepped to
+-- "A link that is not last, or is last and followed" (RULES 9.10); any other node is stepped to
 unfoldable pub stepTo : Request → Bool → Place → ℕ → Step
 stepTo a last p n =
     cond (isLink (a .tree) n && (not last || a .followLast))
     (followLink a p n)
     (along (enter (a .tree) (placeAt (p .mount) n)))
 
--- "absent, ENOENT; else step to it"
+-- "absent, ENOENT; else step to it" (RULES 9.9, 9.11)
 abbrev pub stepBy : Request → Bool → Place → Option ℕ → Step
 stepBy a last p none = fail Enoent
 stepBy a last p (some e) = stepTo a last p (a .tree .entryNode e)
 
--- "A name: over 255, ENAMETOOLONG"
+-- "A name: over 255, ENAMETOOLONG" (RULES 9.9)
 unfoldable pub byName : Request → Bool → Place → List ℕ → Step
 byName a last p name =
     cond (ltb 255 (length name)) (fail Enametoolong) (stepBy a last p (lookup (a .tree) (p .node) name))
 
--- one component, taken at a place: "." stays, ".." goes up, any other is a name
+-- one component, taken at a place: "." stays, ".." goes up, any other is a name (RULES 8.3, 9.7)
 unfoldable pub oneComponent : Request → Bool → Place → List ℕ → Step
 oneComponent a last p bytes =
     cond (sameBytes bytes (ascii ".")) (along (stayAt p))
     (cond (sameBytes bytes (ascii "..")) (along (goUp a p)) (byName a last p bytes))
 
--- "Taking it adds 1 to the components."
+-- "Taking it adds 1 to the components." (RULES 9.6)
 abbrev pub taken : State → State
 taken s = record {
   place = s .place;
@@ -150,7 +150,7 @@ abbrev pub standingOn : Place → State → State
 standingOn p s = record { place = p; progress = s .progress; directory = s .directory }
 
 -- a link followed to a place; `slash` says that a last link's body ends in "/": "A directory is required .. by one ending the
--- body of a followed last link."
+-- body of a followed last link." (RULES 9.16, 9.17)
 abbrev pub followedTo : Place → Bool → State → State
 followedTo p slash s = record {
   place = p;
@@ -158,7 +158,7 @@ followedTo p slash s = record {
   directory = s .directory || slash;
 }
 
--- "At the end: required and not a directory, ENOTDIR; else a link without O_PATH, ELOOP."
+-- "At the end: required and not a directory, ENOTDIR; else a link without O_PATH, ELOOP." (RULES 9.20)
 unfoldable pub finish : Request → State → Answer
 finish a s =
     cond (s .directory && not (isDirectory (a .tree) (s .place .node))) (refused Enotdir (s .progress))
@@ -186,15 +186,15 @@ pub record Transition : Type 0 where
 abbrev pub refusesAt : Errno → State → Transition
 refusesAt e s = record { events = []; met = s; turn = refuses e s }
 
--- "Only now does it count as followed; a magic link does once its target is stood on.": the components of a body come in front of
--- the pending ones
+-- "Only now does it count as followed; a magic link does once its target is stood on." (RULES 9.14, 9.15): the components of a body
+-- come in front of the pending ones (RULES 8.6)
 abbrev pub land : Request → Landing → List Component → State → Turn
 land a outside pending s = refuses Exdev s
 land a (target p) pending s = followed pending (followedTo p false s)
 land a (reading n p) pending s =
     followed (components n (a .tree .body n) ++ pending) (followedTo p (isEmpty pending && endsInSlash (a .tree .body n)) s)
 
--- "the 41st gives ELOOP. Then event Link.": with no link left, no event is met
+-- "the 41st gives ELOOP. Then event Link." (RULES 9.13): with no link left, no event is met
 abbrev pub ifLeft : ℕ → State → Transition → Transition
 ifLeft zero s t = refusesAt Eloop s
 ifLeft (suc links) s t = t
@@ -205,8 +205,8 @@ transitionBy a links pending s (go es p) = record { events = es; met = s; turn =
 transitionBy a links pending s (follow es l) = ifLeft links s (record { events = es; met = s; turn = land a l pending s })
 
 -- One component, with a number of links left and the components pending behind it. Those are the ones of the text being read and then
--- of all texts still open, so "a component is last if only slashes follow in its text and in all texts still open" is that there are
--- none. "Not last and not a directory: ENOTDIR, before the next component is taken."
+-- of all texts still open, so "a component is last if only slashes follow in its text and in all texts still open" (RULES 8.7) is that
+-- there are none. "Not last and not a directory: ENOTDIR, before the next component is taken." (RULES 9.5)
 unfoldable pub transition : Request → ℕ → Component → List Component → State → Transition
 transition a links c pending s =
     cond (isDirectory (a .tree) (s .place .node))
@@ -237,8 +237,8 @@ unfoldable pub walk : Request → ℕ → List Component → State → Trace
 walk a zero pending s = walkPending a zero noneLeft pending s
 walk a (suc links) pending s = walkPending a (suc links) (walk a links) pending s
 
--- "Start" is an absolute given path: it is met with both counts 0. "A path starting with "/" begins at the root, another at the
--- handle." "40 links pass, 41 don't"
+-- "Start" is an absolute given path: it is met with both counts 0 (RULES 9.3, 10.1). "A path starting with "/" begins at the root, another at the
+-- handle." (RULES 9.3) "40 links pass, 41 don't" (RULES 11.3)
 unfoldable pub beginAt : Request → Bool → List ℕ → Place → Trace
 beginAt a directory path p =
     stand p (walk a 40 (components givenPath path) (record { place = p; progress = notWalked; directory = directory }))

@@ -1,7 +1,7 @@
 // The types that the definitions, the promises and the code share. The definitions are in specs/, the theorems over them in
 // proofs/.
 
-// The most bytes that a name has,
+// The limits of a walk (RULES 11): the most bytes that a name has,
 pub const MOST_NAME: usize = 255;
 
 // and a text, be it the given path or a link's body;
@@ -13,39 +13,39 @@ pub const MOST_LINKS: usize = 40;
 // The detail of an answer that names no unknown bit.
 pub const NO_DETAIL: u32 = 255;
 
-// A place, in document 01's sense: a node as it is seen through one mount.
+// A place (RULES 3.5): a node as it is seen through one mount.
 pub struct Place {
     pub mount: usize,
     pub node: usize,
 }
 
-// A directory handle. The mark is the below mark of OpenBSD's O_BELOW proposal, kept with the handle.
+// A directory handle. The mark is the below mark of OpenBSD's O_BELOW proposal, kept with the handle (RULES 5.1, 6.9).
 pub struct Handle {
     pub mount: usize,
     pub node: usize,
     pub mark: bool,
 }
 
-// How far a walk came: components taken and links followed.
+// How far a walk came: components taken and links followed (RULES 11.2).
 pub struct Progress {
     pub components: usize,
     pub links: usize,
 }
 
-// A walk's state: where it stands, how far it came, and whether it must end on a directory.
+// A walk's state: where it stands, how far it came, and whether it must end on a directory (RULES 9.1).
 pub struct State {
     pub place: Place,
     pub progress: Progress,
     pub directory: bool,
 }
 
-// What Found carries.
+// What Found carries (RULES 5.3).
 pub struct Reached {
     pub place: Place,
     pub progress: Progress,
 }
 
-// The error numbers that the resolver gives, by their usual names. Answers.antt in specs/ has each one's number.
+// The error numbers that the resolver gives, by their usual names (RULES 5.7). Answers.antt in specs/ has each one's number.
 pub enum Errno {
     Euclean,
     E2big,
@@ -58,7 +58,7 @@ pub enum Errno {
     Exdev,
 }
 
-// What a refusal carries: detail is an unknown bit's number, else NO_DETAIL.
+// What a refusal carries (RULES 5.4): detail is an unknown bit's number, else NO_DETAIL.
 pub struct Refusal {
     pub errno: Errno,
     pub detail: u32,
@@ -71,7 +71,7 @@ pub enum Answer {
     Refused(Refusal),
 }
 
-// The table check's answer: accepted, or the lowest rule broken with the lowest record that breaks it.
+// The table check's answer: accepted, or the lowest rule broken with the lowest record that breaks it (RULES 4.8).
 pub enum Verdict {
     Accepted,
     Broken { rule: usize, record: usize },

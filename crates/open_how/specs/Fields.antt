@@ -8,7 +8,7 @@ use Rattle.open_how.specs.declared.How.{How}
 use Rattle.open_how.specs.declared.HowRead.{HowRead}
 use Rattle.open_how.specs.declared.HowRead.the-variants.{Fields, Refused}
 
--- "open_how (000): u64 flags, u16 mode, 6 padding bytes, u64 resolve.": the two fields that a walk goes by
+-- "open_how: u64 flags, u16 mode, 6 padding bytes, u64 resolve." (RULES 6.1): the two fields that a walk goes by
 abbrev pub fieldsOf : List ℕ → How
 fieldsOf how = record { flags = flagsOf how; resolve = resolveOf how }
 
@@ -17,6 +17,6 @@ abbrev pub fieldsUnless : Option Refusal → How → HowRead
 fieldsUnless none f = Fields f
 fieldsUnless (some r) f = Refused r
 
--- "Order: .. open_how length (too short, too long, tail), flags, resolve, both scopes, mode, ..": the first refusal, else the fields
+-- "Order: .. open_how length (too short, too long, tail), flags, resolve, both scopes, mode, .." (RULES 6.10): the first refusal, else the fields
 unfoldable pub readHow : List ℕ → HowRead
 readHow how = fieldsUnless (howRefused how) (fieldsOf how)

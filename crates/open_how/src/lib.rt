@@ -1,4 +1,4 @@
-// The checks of open_how: u64 flags, u16 mode, 6 padding bytes, u64 resolve.
+// The checks of open_how (RULES 6): u64 flags, u16 mode, 6 padding bytes, u64 resolve.
 use checks::Check;
 use checks::refuse;
 use fields::u64_at;

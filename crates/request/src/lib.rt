@@ -25,7 +25,7 @@ pub struct Request {
     pub opath: bool,
 }
 
-// "A last link is followed unless O_NOFOLLOW is set and the given path does not end in "/"."
+// "A last link is followed unless O_NOFOLLOW is set and the given path does not end in "/"." (RULES 9.12)
 fn follows_last(flags: u64, slash: bool) -> bool
     ensures { λ r. ⌜ r ≡ not (has O-NOFOLLOW flags) || slash ⌝ }
 {
@@ -36,7 +36,7 @@ fn follows_last(flags: u64, slash: bool) -> bool
 }
 
 // From the handle, the open_how's fields and whether the path ends in a slash. "The root is the handle under IN_ROOT, else mount 0's
-// root."
+// root." (RULES 9.2)
 pub fn request_of(image: &[u8], c: Counts, h: Handle, f: How, slash: bool) -> Request
     requires { ⌜ Reading (now image) c ⌝ }
     ensures { λ r. ⌜ r ≡ numbersBy (now (image .entry)) h f slash ⌝ }

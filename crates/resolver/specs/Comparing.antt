@@ -1,4 +1,4 @@
--- Demand 3 about the answers of two calls that a resolver made.
+-- Demand 3 (RULES 12.3) about the answers of two calls that a resolver made.
 use Prim.Native.Nat.{ℕ}
 use mathlib.Core.List.{List}
 use mathlib.Core.Path.{_≡_}

@@ -79,7 +79,7 @@ fn begin<'a>(
     run(image, c, k, path, w, &mut stack)
 }
 
-// Start is met by an absolute path, with both counts 0.
+// Start is met by an absolute path, with both counts 0 (RULES 9.3).
 fn walk_path<'a>(image: &'a [u8], c: Counts, k: Request, path: &'a [u8], directory: bool) -> Answer
     requires { ⌜ Walking (now image) c k × Inside (treeOf (now image)) (k .handle) × (length (now path) ≤ 4095) ⌝ }
     ensures { λ r. ⌜ r ≡ answer (restrictionsFor k) (walkPath (requestFor (now (image .entry)) k) directory (now (path .entry))) ⌝ }
@@ -102,7 +102,7 @@ fn walk_path<'a>(image: &'a [u8], c: Counts, k: Request, path: &'a [u8], directo
     begin(image, c, k, path, directory, root)
 }
 
-// "A directory is required by O_DIRECTORY, by a "/" ending the path, .."
+// "A directory is required by O_DIRECTORY, by a "/" ending the path, .." (RULES 9.4)
 fn needs_directory(flags: u64, slash: bool) -> bool
     ensures { λ r. ⌜ r ≡ has O-DIRECTORY flags || slash ⌝ }
 {

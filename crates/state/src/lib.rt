@@ -66,7 +66,7 @@ pub fn finish(image: &[u8], c: Counts, k: Request, s: State) -> Answer
     }
 }
 
-// "Taking it adds 1 to the components."
+// "Taking it adds 1 to the components." (RULES 9.6)
 pub fn taken(s: State) -> State
     requires { ⌜ s .progress .components < 83968 ⌝ }
     ensures { λ r. ⌜ r ≡ taken s ⌝ }
@@ -104,7 +104,7 @@ fn either(a: bool, b: bool) -> bool
     b
 }
 
-// "Only now does it count as followed"; a slash at the end of a followed last body requires a directory.
+// "Only now does it count as followed" (RULES 9.15); a slash at the end of a followed last body requires a directory.
 pub fn followed_to(p: Place, slash: bool, s: State) -> State
     requires { ⌜ s .progress .links < 40 ⌝ }
     ensures { λ r. ⌜ r ≡ followedTo p slash s ⌝ }

@@ -9,23 +9,23 @@ use Rattle.parts.specs.declared.records.Counts.{Counts}
 use Rattle.table_leads.specs.declared.Lead.{Lead}
 use Rattle.table_leads.specs.declared.Lead.the-variants.{Settled, Into, Dangling}
 
--- "parent number lower; point is a directory under the parent's root and not that root"
+-- "parent number lower; point is a directory under the parent's root and not that root" (RULES 4.6d, 4.6e)
 unfoldable pub pointLead : Tree → ℕ → Lead
 pointLead t m =
     cond (ltb (t .mountParent m) m && isDirectory t (t .mountPoint m) && not (eqb (t .mountPoint m) (t .mountRoot (t .mountParent m))))
     (Into (t .mountParent m) (t .mountPoint m))
     Dangling
 
--- "Mount 0: parent 0, point = root. Others: .."
+-- "Mount 0: parent 0, point = root. Others: .." (RULES 4.6c)
 unfoldable pub hangsLead : Tree → ℕ → Lead
 hangsLead t zero = cond (eqb (t .mountParent 0) 0 && eqb (t .mountPoint 0) (t .mountRoot 0)) Settled Dangling
 hangsLead t (suc k) = pointLead t (suc k)
 
--- "6. Mounts: root is a directory; last field zero.", and all else that the rule says of one mount by itself
+-- "6. Mounts: root is a directory; last field zero." (RULES 4.6), and all else that the rule says of one mount by itself
 unfoldable pub mountLead : Tree → ℕ → Lead
 mountLead t m = cond (isDirectory t (t .mountRoot m) && eqb (t .mountZero m) 0) (hangsLead t m) Dangling
 
--- "7. Magic links: target mount below M, target a directory or file; a directory is under that mount's root."
+-- "7. Magic links: target mount below M, target a directory or file; a directory is under that mount's root." (RULES 4.7)
 unfoldable pub linkLead : Tree → ℕ → Lead
 linkLead t n =
     cond (eqb (t .kind n) 4)

@@ -6,7 +6,7 @@ use mathlib.Core.Path.{_≡_}
 use lib.ListN.{length, getD, take, drop}
 use Rattle.model.specs.Path.{Component, isSlash, upToSlash, componentsFrom}
 
--- "Slashes part components; repeats count as one.": how many slashes a list starts with
+-- "Slashes part components; repeats count as one." (RULES 8.2): how many slashes a list starts with
 unfoldable pub slashes : List ℕ → ℕ
 slashes [] = 0
 slashes (b ∷ s) = cond (isSlash b) (suc (slashes s)) 0
@@ -36,6 +36,6 @@ pub record Stands (s : List ℕ) (at : ℕ) : Type 0 where
   pub no-slash : at < length s → isSlash (getD s at 0) ≡ false
   pub after-slash : 0 < at → at < length s → isSlash (getD s (at - 1) 0) ≡ true
 
--- "The reader is a reading place in the text that knows which bytes remain.": the components from a position on
+-- "The reader is a reading place in the text that knows which bytes remain." (RULES 8.8): the components from a position on
 unfoldable pub left : ℕ → List ℕ → ℕ → List Component
 left text s at = componentsFrom text at true (drop at s)

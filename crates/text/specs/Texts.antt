@@ -8,7 +8,7 @@ use lib.ListN.{take, drop}
 use Rattle.model.specs.Tree.{Tree}
 use Rattle.model.specs.Path.{givenPath}
 
--- "The next name comes either from the path or from a link body, and the name handed on is a part of the caller's own bytes."
+-- "The next name comes either from the path or from a link body, and the name handed on is a part of the caller's own bytes." (RULES 8.5)
 unfoldable pub textOf : Tree → List ℕ → ℕ → List ℕ
 textOf t path text = cond (eqb text givenPath) path (t .body text)
 

@@ -7,7 +7,7 @@ use lib.ListN.{getD}
 use Rattle.model.specs.Bytes.{contains, find}
 use Rattle.parts.specs.Searches.{foundOr}
 
--- "no zero byte", and of names "no zero byte or "/""
+-- "no zero byte" (RULES 4.4f), and of names "no zero byte or "/"" (RULES 4.5b)
 unfoldable pub holdsBarred : Bool → List ℕ → Bool
 holdsBarred names s = contains 0 s || (names && contains 47 s)
 

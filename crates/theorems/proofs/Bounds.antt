@@ -1,4 +1,4 @@
--- "At most 40 links are followed and at most 83,968 components taken (41 texts of at most 2,048).", whatever the bytes. Assumes nothing.
+-- "At most 40 links are followed and at most 83,968 components taken (41 texts of at most 2,048)." (RULES 11.1), whatever the bytes. Assumes nothing.
 use Prim.Native.Nat.{ℕ, zero, suc, _-_, _≤_, _<_}
 use mathlib.Core.Bool.{Bool, cond, not, _&&_, _||_}
 use mathlib.Core.List.{List, [], _∷_}

@@ -200,7 +200,7 @@ only-stops-answers image call call′ first-is second-is added a =
 found-not-refused : (r : Reached) (e : Errno) (p : Progress) → Found r ≡ refused e p → ⊥
 found-not-refused r e p h = let z : _≡_ {A = ℕ} 0 1 = cc in omega arith
 
--- "So a further restriction never turns one place into another.": a place found with restrictions added is found without them too,
+-- "So a further restriction never turns one place into another." (RULES 12.7): a place found with restrictions added is found without them too,
 -- with the same counts
 pub never-elsewhere : (added : Restrictions) (image : List ℕ) (call call′ : Call) → Added added image call call′
     → (r : Reached) → resolve image call′ ≡ Found r → resolve image call ≡ Found r

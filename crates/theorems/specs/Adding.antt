@@ -1,4 +1,4 @@
--- Demand 3 in definitions: two calls of the resolver of which the second has restrictions added, and the events of the first.
+-- Demand 3 (RULES 12.3) in definitions: two calls of the resolver of which the second has restrictions added, and the events of the first.
 use Prim.Native.Nat.{ℕ, _+_, _≤_, _<_}
 use mathlib.Core.Bool.{true, false, cond, _||_}
 use mathlib.Core.List.{List, [], _∷_}
@@ -29,7 +29,7 @@ addedBits added =
     + cond (added beneath) BENEATH 0
 
 -- "the second has the added restrictions as bits of resolve or as the handle's mark, and all other input alike; an open_how under
--- 24 bytes has no resolve to add bits to and is the same in both": the first call, then the second
+-- 24 bytes has no resolve to add bits to and is the same in both" (RULES 12.4): the first call, then the second
 pub record Adds (added : Restrictions) (call call′ : Call) : Type 0 where
   pub samePlace : placeOf (call′ .handle) ≡ placeOf (call .handle)
   pub markAdded : call′ .handle .mark ≡ call .handle .mark || added mark
@@ -50,7 +50,7 @@ withMark added h = record { mount = h .mount; node = h .node; mark = h .mark || 
 abbrev pub withAdded : Restrictions → Call → Call
 withAdded added call = callOf (withMark added (call .handle)) (call .path) (withBits added (call .how))
 
--- an event met, with the counts reached there
+-- an event met, with the counts reached there (RULES 12.6)
 abbrev pub Meeting : Type 0
 Meeting = Event × Progress
 
@@ -66,27 +66,27 @@ meetings R (stand p later) = meetings R later
 meetings R (meet e p later) = onward (forbids R e) (e, p) (meetings R later)
 
 -- "The events are those that the walk above meets on the first call's input, in the order met; a call refused before the walk
--- meets none."
+-- meets none." (RULES 12.5)
 unfoldable pub eventsOf : List ℕ → Call → List Meeting
 eventsOf image call =
     ifNone (refusedBefore image call) (meetings (restrictions call) (traceOf image call))
 
--- "the first event of that walk that an added one forbids"
+-- "the first event of that walk that an added one forbids" (RULES 12.3b)
 unfoldable pub firstForbidden : Restrictions → List Meeting → Option Meeting
 firstForbidden added [] = none
 firstForbidden added (x ∷ xs) = cond (isSome (forbids added (x .0))) (some x) (firstForbidden added xs)
 
 -- Demand 3, of the answers of two calls: where the first meets no event that an added restriction forbids, "both answers are the
--- same, place or error, counts included". Otherwise the second's answer "is then the error that document 01 gives this event under
--- all restrictions now set, with the counts reached there".
+-- same, place or error, counts included" (RULES 12.3a). Otherwise the second's answer is the error that RULES 10.3 gives this event "under
+-- all restrictions now set, with the counts reached there" (RULES 12.3b).
 pub record OnlyStops (added : Restrictions) (image : List ℕ) (call call′ : Call) (first second : Answer) : Type 0 where
   pub same : firstForbidden added (eventsOf image call) ≡ none → second ≡ first
   pub stopped : (e : Event) (p : Progress) → firstForbidden added (eventsOf image call) ≡ some (e, p)
       → (n : Errno) × (forbids (restrictions call′) e ≡ some n) × (second ≡ refused n p)
 
 -- "Take any accepted table, any good handle, any path and any open_how, whatever restrictions are already set and with IN_ROOT on
--- or off. Add any of NO_XDEV, NO_MAGICLINKS, NO_SYMLINKS, the below mark and, with IN_ROOT off, BENEATH, and keep all else alike."
--- "A handle is good if none of the handle checks would refuse it."
+-- or off. Add any of NO_XDEV, NO_MAGICLINKS, NO_SYMLINKS, the below mark and, with IN_ROOT off, BENEATH, and keep all else alike." (RULES 12.3)
+-- "A handle is good if none of the handle checks would refuse it." (RULES 7.6)
 pub record Added (added : Restrictions) (image : List ℕ) (call call′ : Call) : Type 0 where
   pub accepted : tableCheck image ≡ Accepted
   pub good : handleRefused (treeOf image) (call .handle) ≡ none

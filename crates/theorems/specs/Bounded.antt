@@ -1,4 +1,4 @@
--- "At most 40 links are followed and at most 83,968 components taken (41 texts of at most 2,048)."
+-- "At most 40 links are followed and at most 83,968 components taken (41 texts of at most 2,048)." (RULES 11.1)
 use Prim.Native.Nat.{ℕ, _≤_}
 use mathlib.Core.List.{List}
 use Rattle.model.specs.Answers.{progressOf}

@@ -7,8 +7,8 @@ use crate::resolver::{
 use crate::subject::{Handle, Lent, Subject};
 use std::fmt;
 
-/// The restrictions that demand 3 may add, as bits of resolve; BENEATH only
-/// with IN_ROOT off.
+/// The restrictions that demand 3 (RULES 12.3) may add, as bits of resolve;
+/// BENEATH only with IN_ROOT off.
 pub const ADDABLE: u64 = NO_XDEV | NO_MAGICLINKS | NO_SYMLINKS | BENEATH;
 
 #[derive(Clone, PartialEq, Eq)]

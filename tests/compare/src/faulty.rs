@@ -28,7 +28,7 @@ macro_rules! faults {
 }
 
 faults! {
-    // The slips that document 01 lists.
+    // The slips of RULES 14.
     HandleByNode: "the handle is told by its node alone",
     FoldedText: "a name and the \"..\" after it are folded as text",
     NoSymlinksUnfollowed: "NO_SYMLINKS refuses an unfollowed last link",

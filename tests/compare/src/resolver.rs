@@ -1,5 +1,5 @@
-//! The table check and the walk, written from document 01 alone and in its
-//! order, to be compared with the library.
+//! The table check and the walk, written from the rules alone and in their
+//! order, to be compared with the library. docs/RULES.md has the rules.
 //!
 //! Nothing here is meant to be quick or small: records are parsed into
 //! vectors first, and the texts still to be read are one queue of
@@ -492,7 +492,7 @@ pub struct Met {
     pub links: u64,
 }
 
-/// Demand 3: what a second call must answer that has `added` restrictions
+/// Demand 3 (RULES 12.3): what a second call must answer with `added` restrictions
 /// beside those `set` in the first, from the first answer and its events.
 pub fn second_answer(
     first: Answer,

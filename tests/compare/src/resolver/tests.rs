@@ -1,7 +1,7 @@
 use super::*;
 use crate::draft::{put, Draft};
 
-/// The smallest image, as document 01 prints it.
+/// The smallest image (RULES 2.9).
 const SMALLEST: [u8; 40] = [
     0x54, 0x4F, 0x43, 0x31, 1, 0, 1, 0, 0, 0, 0, 0, 0, 0, 0, 0, 0x28, 0, 0, 0, 1, 0, 0, 0, 0, 0, 0,
     0, 0, 0, 0, 0, 0, 0, 0, 0, 0, 0, 0, 0,
