@@ -36,13 +36,12 @@ ghost use Rattle.model.specs.Tree.{treeOf};
 ghost use Rattle.model.specs.TableCheck.{tableCheck};
 ghost use Rattle.model.specs.Trace.{answer};
 ghost use Rattle.model.specs.Walk.{beginAt, walkPath};
-ghost use Rattle.model.specs.Answers.{progressOf};
-ghost use Rattle.model.specs.Resolve.{callOf, resolve};
+ghost use Rattle.model.specs.Resolve.{callOf};
 ghost use Rattle.model.specs.declared.Verdict.the-variants.{Accepted};
-ghost use Rattle.theorems.specs.Bounded.{Bounded};
 ghost use Rattle.laws.specs.Inside.{Inside};
 ghost use Rattle.request.specs.Requests.{requestFor, restrictionsFor};
 ghost use Rattle.request.specs.Walking.{Walking};
+ghost use Rattle.resolver.specs.Answering.{Kept, Answered};
 ghost use Rattle.resolver.specs.Comparing.{Compared};
 
 // A walk from a place: a path of slashes alone has no component.
@@ -115,8 +114,7 @@ fn needs_directory(flags: u64, slash: bool) -> bool
 // The answer over a table that was accepted before, for a caller who checked it once.
 pub fn resolve_accepted<'a>(image: &'a [u8], h: Handle, path: &'a [u8], how: &[u8]) -> Answer
     requires { ⌜ tableCheck (now image) ≡ Accepted ⌝ }
-    ensures { λ r. ⌜ (r ≡ resolve (now (image .entry)) (callOf h (now (path .entry)) (now (how .entry)))) × Bounded (progressOf r)
-        × (now (image .exit) ≡ now (image .entry)) × (now (path .exit) ≡ now (path .entry)) × (now (how .exit) ≡ now (how .entry)) ⌝ }
+    ensures { λ r. ⌜ Answered (now (image .entry)) (callOf h (now (path .entry)) (now (how .entry))) (now (image .exit)) (callOf h (now (path .exit)) (now (how .exit))) r ⌝ }
 {
     let c = read_counts(image);
     let read = check_call(image, c, h, path, how);
@@ -132,8 +130,7 @@ pub fn resolve_accepted<'a>(image: &'a [u8], h: Handle, path: &'a [u8], how: &[u
 
 // The answer, for any bytes at all. Its counts are at most 83,968 and 40, and what is lent stays as it was.
 pub fn resolve<'a>(image: &'a [u8], h: Handle, path: &'a [u8], how: &[u8]) -> Answer
-    ensures { λ r. ⌜ (r ≡ resolve (now (image .entry)) (callOf h (now (path .entry)) (now (how .entry)))) × Bounded (progressOf r)
-        × (now (image .exit) ≡ now (image .entry)) × (now (path .exit) ≡ now (path .entry)) × (now (how .exit) ≡ now (how .entry)) ⌝ }
+    ensures { λ r. ⌜ Answered (now (image .entry)) (callOf h (now (path .entry)) (now (how .entry))) (now (image .exit)) (callOf h (now (path .exit)) (now (how .exit))) r ⌝ }
 {
     let verdict = check(image);
     match verdict {
@@ -164,7 +161,7 @@ pub fn resolve_pair<'a>(
     restricted: &[u8],
 ) -> Pair
     ensures { λ r. ⌜ Compared (now (image .entry)) (callOf h (now (path .entry)) (now (how .entry))) (callOf then (now (path .entry)) (now (restricted .entry))) (r .first) (r .second)
-        × (now (image .exit) ≡ now (image .entry)) × (now (path .exit) ≡ now (path .entry)) × (now (how .exit) ≡ now (how .entry))
+        × Kept (now (image .entry)) (callOf h (now (path .entry)) (now (how .entry))) (now (image .exit)) (callOf h (now (path .exit)) (now (how .exit)))
         × (now (restricted .exit) ≡ now (restricted .entry)) ⌝ }
 {
     let first = resolve(image, h, path, how);

@@ -45,8 +45,10 @@ module _ (numbers : List ℕ) (n : ℕ) (count : length numbers ≡ n) (before a
 pub writes-none : (numbers before : List ℕ) (n : ℕ) → length numbers ≡ n → length before < n → Writes numbers before before 0
 writes-none numbers before n count h = record { fits = λ l. absurd (omega arith); short = λ l. (refl, refl) }
 
-pub answer-writes : (a : Answer) (before after : List ℕ) → 6 ≤ length before → after ≡ answerNumbers a ++ drop 6 before → Writes (answerNumbers a) before after 6
-answer-writes a before after = writes-all (answerNumbers a) 6 (answer-six a) before after
+pub answer-writes : {a r : Answer} {before after : List ℕ} → r ≡ a → 6 ≤ length before → after ≡ answerNumbers r ++ drop 6 before
+    → Writes (answerNumbers a) before after 6
+answer-writes {a} {r} {before} {after} is h e =
+    writes-all (answerNumbers a) 6 (answer-six a) before after h (e ∙ ap (λ y. answerNumbers y ++ drop 6 before) is)
 
 pub answer-short : (a : Answer) (before : List ℕ) → length before < 6 → Writes (answerNumbers a) before before 0
 answer-short a before = writes-none (answerNumbers a) before 6 (answer-six a)

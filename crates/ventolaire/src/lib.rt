@@ -14,9 +14,8 @@ ghost use Prim.Native.Nat.{ℕ, _≤_};
 ghost use lib.ListN.{length, drop};
 ghost use Rattle.model.specs.Answers.{errnoNumber, answerNumbers, verdictNumbers};
 ghost use Rattle.model.specs.TableCheck.{tableCheck};
-ghost use Rattle.model.specs.Resolve.{callOf, resolve};
 ghost use Rattle.model.specs.declared.Verdict.the-variants.{Accepted};
-ghost use Rattle.ventolaire.specs.Written.{handleOf, errnoNumbers, Writes};
+ghost use Rattle.ventolaire.specs.Written.{callBy, errnoNumbers, Writes, WritesAnswer};
 
 fn errno_number(e: Errno) -> u64
     ensures { λ r. ⌜ r ≡ errnoNumber e ⌝ }
@@ -121,8 +120,8 @@ pub extern "C" fn ventolaire_resolve<'a>(
     how: &[u8],
     out: &mut [u64],
 ) -> usize
-    ensures { λ r. ⌜ Writes (answerNumbers (resolve (now (image .entry)) (callOf (handleOf mount node mark) (now (path .entry)) (now (how .entry))))) (now (out .entry)) (now (out .exit)) r
-        × (now (image .exit) ≡ now (image .entry)) × (now (path .exit) ≡ now (path .entry)) × (now (how .exit) ≡ now (how .entry)) ⌝ }
+    ensures { λ r. ⌜ WritesAnswer (now (image .entry)) (callBy mount node mark (now (path .entry)) (now (how .entry)))
+        (now (image .exit)) (callBy mount node mark (now (path .exit)) (now (how .exit))) (now (out .entry)) (now (out .exit)) r ⌝ }
 {
     if out.len() < 6 {
         return 0;
@@ -148,8 +147,8 @@ pub extern "C" fn ventolaire_resolve_accepted<'a>(
     out: &mut [u64],
 ) -> usize
     requires { ⌜ tableCheck (now image) ≡ Accepted ⌝ }
-    ensures { λ r. ⌜ Writes (answerNumbers (resolve (now (image .entry)) (callOf (handleOf mount node mark) (now (path .entry)) (now (how .entry))))) (now (out .entry)) (now (out .exit)) r
-        × (now (image .exit) ≡ now (image .entry)) × (now (path .exit) ≡ now (path .entry)) × (now (how .exit) ≡ now (how .entry)) ⌝ }
+    ensures { λ r. ⌜ WritesAnswer (now (image .entry)) (callBy mount node mark (now (path .entry)) (now (how .entry)))
+        (now (image .exit)) (callBy mount node mark (now (path .exit)) (now (how .exit))) (now (out .entry)) (now (out .exit)) r ⌝ }
 {
     if out.len() < 6 {
         return 0;

@@ -25,7 +25,7 @@ stop-requires : tie.Need-stop-requires
 stop-requires c κs = search needs
 
 returns : tie.Need-returns
-returns c = (c .resolve-accepted .ensures .0, c .resolve-accepted .ensures .1, refl, refl, refl)
+returns c = (c .resolve-accepted .ensures .0, c .resolve-accepted .ensures .1, (refl, refl))
 
 returns-2 : tie.Need-returns-2
 returns-2 c =
@@ -34,7 +34,7 @@ returns-2 c =
     let x = at-check .before .before .before .before .args in
     let broken = sym (at-check .check .ensures .0) ∙ at-arm .enum-told2 .given .1 in
     let e = c .stop .ensures ∙ broken-call (now (x .image)) (x .h) (now (x .path)) (now (x .how)) _ _ broken in
-    (e, subst (λ a. Bounded (progressOf a)) (sym e) (every-walk-bounded _ _), refl, refl, refl)
+    (e, subst (λ a. Bounded (progressOf a)) (sym e) (every-walk-bounded _ _), (refl, refl))
 
 pub resolve-spec : {M : Type 1} → statement M
 resolve-spec =

@@ -76,7 +76,7 @@ returns c =
     let walks = read-walks s h path how (start .pre) _ (at-check .check-call .ensures) f (at-read .read .given .1) in
     let resolved = walked s h path how f _ _ _ walks (at-slash .ends-in-slash .ensures) (at-request .request-of .ensures) (at-directory .needs-directory .ensures) in
     let e = c .walk-path .ensures ∙ resolved in
-    (e, subst (λ a. Bounded (progressOf a)) (sym e) (every-walk-bounded s (callOf h path how)), refl, refl, refl)
+    (e, subst (λ a. Bounded (progressOf a)) (sym e) (every-walk-bounded s (callOf h path how)), (refl, refl))
 
 returns-2 : tie.Need-returns-2
 returns-2 c =
@@ -89,7 +89,7 @@ returns-2 c =
     let how = now (start .args .how) in
     let r = at-read .read2 .given .0 .0 in
     let e = refused-call s h path how r (read-refused s h path how (start .pre) _ (at-check .check-call .ensures) r (at-read .read2 .given .1)) in
-    (e, subst (λ a. Bounded (progressOf a)) (sym e) (every-walk-bounded s (callOf h path how)), refl, refl, refl)
+    (e, subst (λ a. Bounded (progressOf a)) (sym e) (every-walk-bounded s (callOf h path how)), (refl, refl))
 
 pub resolve-accepted-spec : {M : Type 1} → statement M
 resolve-accepted-spec =

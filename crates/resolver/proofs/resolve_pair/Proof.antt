@@ -19,9 +19,7 @@ returns c =
         secondAnswer = c .resolve2 .ensures .0;
         onlyStops = only-stops-answers _ _ _ (resolve .ensures .0) (c .resolve2 .ensures .0);
       },
-      refl,
-      refl,
-      refl,
+      (refl, refl),
       refl,
     )
 
