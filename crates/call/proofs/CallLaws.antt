@@ -1,13 +1,28 @@
--- Laws of a call's checks: over an accepted table they are all that refuses before the walk. Assumes nothing.
+-- Laws of a call's checks: over an accepted table they are all that refuses before the walk, and the first that does decides.
+-- Assumes nothing.
 use Prim.Native.Nat.{ℕ}
 use mathlib.Core.List.{List}
 use mathlib.Core.Option.{none}
-use mathlib.Core.Path.{_≡_, ap}
+use mathlib.Core.Path.{_≡_, sym, ap, _∙_}
+use Rattle.model.specs.Tree.{treeOf}
+use Rattle.model.specs.OpenHow.{howRefused}
+use Rattle.model.specs.Path.{pathRefused}
+use Rattle.model.specs.Handles.{handleRefused}
 use Rattle.model.specs.TableCheck.{tableCheck}
 use Rattle.model.specs.Resolve.{Call, refusedTable, refusedAfterTable, refusedBefore}
 use Rattle.model.specs.declared.Verdict.the-variants.{Accepted}
-use Rattle.open_how.specs.Fields.{fieldsOf}
+use Rattle.model.specs.declared.Refusal.{Refusal}
+use Rattle.checks.specs.Checks.{checkOf}
+use Rattle.checks.specs.declared.Check.{Check}
+use Rattle.checks.specs.declared.Check.the-variants.{Passes, Refused}
+use Rattle.checks.proofs.CheckLaws.{passed, stopped}
+use Rattle.open_how.specs.Fields.{fieldsOf, readHow}
+use Rattle.open_how.specs.declared.How.{How}
+use Rattle.open_how.specs.declared.HowRead.{HowRead}
+use Rattle.open_how.specs.declared.HowRead.the-variants.{Fields, Refused as HowRefused}
+use Rattle.open_how.proofs.CheckLaws.{how-passed, how-stopped}
 use Rattle.call.specs.Calls.{walksUnless, callRead}
+use Rattle.call.specs.declared.CallRead.the-variants.{Walks, Refused as CallRefused}
 
 module _ (image : List ℕ) (call : Call) where
   pub accepted-before : refusedTable (tableCheck image) ≡ none → refusedBefore image call ≡ refusedAfterTable image call
@@ -18,3 +33,30 @@ module _ (image : List ℕ) (call : Call) where
   pub accepted-call : tableCheck image ≡ Accepted → callRead image call ≡ walksUnless (refusedBefore image call) (fieldsOf (call .how))
   unfolding callRead
   accepted-call e = rw (accepted-before (ap refusedTable e))
+
+-- the checks in their order: the first that refuses decides
+module _ (image : List ℕ) (call : Call) {read : HowRead} (how-is : read ≡ readHow (call .how)) where
+  pub by-how : {q : Refusal} → read ≡ HowRefused q → CallRefused q ≡ callRead image call
+  unfolding callRead refusedAfterTable readHow
+  by-how e = rw (how-stopped (howRefused (call .how)) (fieldsOf (call .how)) _ (sym how-is ∙ e))
+
+  module _ {f : How} (how-told : read ≡ Fields f) {p : Check} (path-is : p ≡ checkOf (pathRefused (call .path))) where
+    how-passes : (howRefused (call .how) ≡ none) × (f ≡ fieldsOf (call .how))
+    unfolding readHow
+    how-passes = how-passed (howRefused (call .how)) (fieldsOf (call .how)) f (sym how-is ∙ how-told)
+
+    pub by-path : {q : Refusal} → p ≡ Refused q → CallRefused q ≡ callRead image call
+    unfolding callRead refusedAfterTable
+    by-path e = rw (how-passes .0, stopped (pathRefused (call .path)) _ (sym path-is ∙ e))
+
+    module _ (path-told : p ≡ Passes) {h : Check} (handle-is : h ≡ checkOf (handleRefused (treeOf image) (call .handle))) where
+      pub by-handle : {q : Refusal} → h ≡ Refused q → CallRefused q ≡ callRead image call
+      unfolding callRead refusedAfterTable
+      by-handle e =
+          rw (how-passes .0, passed (pathRefused (call .path)) (sym path-is ∙ path-told), stopped (handleRefused (treeOf image) (call .handle)) _ (sym handle-is ∙ e))
+
+      pub by-fields : h ≡ Passes → Walks f ≡ callRead image call
+      unfolding callRead refusedAfterTable
+      by-fields e =
+          rw (how-passes .0, passed (pathRefused (call .path)) (sym path-is ∙ path-told), passed (handleRefused (treeOf image) (call .handle)) (sym handle-is ∙ e))
+          (ap Walks (how-passes .1))

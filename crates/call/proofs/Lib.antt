@@ -1,3 +1,4 @@
 -- Laws that this crate's proofs cite, and what its answer is to a call.
-pub mod HandleLaws
+mod HandleLaws
 pub mod CallLaws
+mod PathLaws
