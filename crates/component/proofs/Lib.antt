@@ -3,3 +3,4 @@ mod EnterLaws
 mod RowLaws
 mod LimitLaws
 mod StepLaws
+mod LinkLaws
