@@ -96,21 +96,8 @@ impl<'a> Measured<'a> {
         self.each(|side| self.instructions_of(side, 50))
     }
 
-    /// The difference between one call and many, each the best of five, so that
-    /// what goes before the first call cancels out.
     fn time(&self, side: Side) -> f64 {
-        let batch = |calls: u64| {
-            let start = Instant::now();
-            black_box(side.run(&self.input, calls));
-            start.elapsed()
-        };
-        let best = |calls| (0..5).map(|_| batch(calls)).min().unwrap_or_default();
-        let once = best(1);
-        let mut more = 1;
-        while batch(1 + more).saturating_sub(once) < Duration::from_millis(10) && more < 1 << 40 {
-            more *= 2;
-        }
-        best(1 + more).saturating_sub(once).as_nanos() as f64 / more as f64
+        nanoseconds(|calls| side.run(&self.input, calls))
     }
 
     /// The difference of two runs under callgrind, for the same reason.
@@ -145,4 +132,21 @@ impl<'a> Measured<'a> {
             .and_then(|line| line.split_whitespace().last()?.parse().ok())
             .ok_or_else(|| format!("valgrind on {name} collected nothing: {stderr}").into())
     }
+}
+
+/// The time of one call: the difference between one and many, each the best of
+/// five, so that what goes before the first call cancels out.
+pub fn nanoseconds(run: impl Fn(u64) -> u64) -> f64 {
+    let batch = |calls: u64| {
+        let start = Instant::now();
+        black_box(run(calls));
+        start.elapsed()
+    };
+    let best = |calls| (0..5).map(|_| batch(calls)).min().unwrap_or_default();
+    let once = best(1);
+    let mut more = 1;
+    while batch(1 + more).saturating_sub(once) < Duration::from_millis(10) && more < 1 << 40 {
+        more *= 2;
+    }
+    best(1 + more).saturating_sub(once).as_nanos() as f64 / more as f64
 }

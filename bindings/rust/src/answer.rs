@@ -46,6 +46,7 @@ impl fmt::Display for Found {
 /// host is; what else it says is lost.
 ///
 /// ```
+/// # #[cfg(feature = "std")] {
 /// use std::io;
 /// use ventolaire::{bench_tree, Place, Resolve, Table};
 ///
@@ -55,6 +56,7 @@ impl fmt::Display for Found {
 ///
 /// let table = Table::new(bench_tree::IMAGE)?;
 /// assert_eq!(open(&table, "lab/pool/run").unwrap_err().raw_os_error(), Some(18));
+/// # }
 /// # Ok::<(), ventolaire::Broken>(())
 /// ```
 #[derive(Clone, Copy, Debug, PartialEq, Eq, Hash)]

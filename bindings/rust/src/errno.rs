@@ -4,11 +4,11 @@ use core::fmt;
 /// Why a path is refused, by Linux's names and numbers.
 ///
 /// ```
-/// use std::io;
 /// use ventolaire::Errno;
 ///
 /// assert_eq!(Errno::EXDEV.to_string(), "EXDEV (18)");
-/// assert_eq!(io::Error::from(Errno::EXDEV).raw_os_error(), Some(18));
+/// # #[cfg(feature = "std")]
+/// assert_eq!(std::io::Error::from(Errno::EXDEV).raw_os_error(), Some(18));
 /// ```
 #[derive(Clone, Copy, Debug, PartialEq, Eq, Hash)]
 #[non_exhaustive]

@@ -1,6 +1,12 @@
+//! Calls and their answers.
+
+mod errors;
+mod paths;
+mod sets;
+mod tables;
+
 use crate::bench_tree::{IMAGE, TABLE};
 use crate::*;
-use std::error::Error;
 
 const LAB: Handle = Handle::new(0, 1);
 
@@ -121,233 +127,6 @@ fn bad_handles_and_paths_are_refused() {
     }
 }
 
-/// What both sets are to do, by their own names.
-macro_rules! a_set_is_as_usual {
-    ($test:ident, $Set:ident, $prefix:literal) => {
-        #[test]
-        fn $test() {
-            const EMPTY: $Set = $Set::empty();
-            const TWO: $Set = $Set::NAMED[0].1.union($Set::NAMED[1].1);
-            let all = $Set::NAMED.iter().map(|&(_, bit)| bit).collect();
-            assert_eq!($Set::all(), all);
-            for &(name, bit) in $Set::NAMED {
-                assert_eq!($Set::from_name(name), Some(bit));
-                assert_eq!($Set::from_name(name.strip_prefix($prefix).unwrap()), Some(bit));
-                assert_eq!($Set::from_bits(bit.bits()), Some(bit));
-                assert_eq!((bit.to_string().as_str(), bit.bits().count_ones()), (name, 1));
-                assert_eq!(bit & !bit, EMPTY);
-                assert_eq!((TWO | bit) - bit, TWO & !bit);
-                assert_eq!(TWO ^ bit, TWO.symmetric_difference(bit));
-                assert_eq!(TWO.contains(bit), TWO.intersects(bit));
-                assert_eq!(bit.complement() | bit, all);
-            }
-            for bit in 0..64 {
-                let set = $Set::from_bits_retain(1 << bit) | TWO;
-                assert_eq!($Set::from_bits(1 << bit).is_some(), all.contains(set));
-                assert_eq!($Set::from_bits_truncate(set.bits()), set & all);
-                assert_eq!(set.to_string().parse(), Ok(set));
-                assert_eq!(format!("{set:?}"), format!(concat!(stringify!($Set), "({})"), set));
-                assert_eq!(format!("{set:#x} {set:X} {set:o} {set:b}"), {
-                    let bits = set.bits();
-                    format!("{bits:#x} {bits:X} {bits:o} {bits:b}")
-                });
-            }
-            let mut changed = EMPTY;
-            changed.extend([TWO]);
-            changed &= all;
-            changed ^= TWO;
-            changed |= TWO;
-            changed -= $Set::NAMED[0].1;
-            assert_eq!(changed.iter_names().collect::<Vec<_>>(), [$Set::NAMED[1]]);
-            assert!($Set::default().is_empty() && !TWO.is_empty());
-            assert_eq!(
-                (EMPTY.to_string().as_str(), "0".parse(), " ".parse()),
-                ("0", Ok(EMPTY), Ok(EMPTY))
-            );
-            for wrong in ["O_BELOW", "|", "0x", "0x+1", "1", "0x1_0", "0x10000000000000000"] {
-                let error = wrong.parse::<$Set>().unwrap_err();
-                assert!(error.to_string().contains($Set::NAMED[0].0), "{wrong}");
-            }
-        }
-    };
-}
-
-a_set_is_as_usual!(flags_are_a_set, Flags, "O_");
-a_set_is_as_usual!(resolve_is_a_set, Resolve, "RESOLVE_");
-
-#[test]
-fn sets_and_hows_are_constants() {
-    const FLAGS: Flags = Flags::PATH.union(Flags::CLOEXEC);
-    const HOW: OpenHow = OpenHow::new().flags(FLAGS).resolve(Resolve::from_bits_retain(u64::MAX));
-    const BYTES: [u8; OpenHow::LEN] = HOW.to_bytes();
-    assert_eq!(
-        BYTES,
-        [0, 0, 0x28, 0, 0, 0, 0, 0, 0, 0, 0, 0, 0, 0, 0, 0, 255, 255, 255, 255, 255, 255, 255, 255]
-    );
-    assert_eq!(OpenHow::from(FLAGS), OpenHow::new().flags(Flags::PATH).flags(FLAGS));
-    assert_eq!(OpenHow::from(Resolve::BENEATH), OpenHow::default().resolve(Resolve::BENEATH));
-    assert_eq!(" NO_XDEV|RESOLVE_BENEATH | 0x20".parse::<Resolve>().unwrap().bits(), 1 + 8 + 32);
-}
-
-#[test]
-fn errors_have_their_numbers() {
-    fn is_error(_: &(dyn Error + Send + Sync + 'static)) {}
-    is_error(&Errno::EXDEV);
-    is_error(&"?".parse::<Flags>().unwrap_err());
-    assert_eq!(Errno::from_number(1).to_string(), "unknown errno (1)");
-    let broken = check(b"").unwrap_err();
-    is_error(&broken);
-    let refusal = resolve(b"", LAB, "cal", OpenHow::new()).unwrap_err();
-    is_error(&refusal);
-    assert_eq!(Refusal::from(broken), refusal);
-}
-
-#[cfg(feature = "std")]
-#[test]
-fn errors_become_those_of_std() {
-    use std::io::{Error, ErrorKind};
-    for &errno in Errno::ALL {
-        let error = Error::from(errno);
-        assert_eq!(error.raw_os_error().map(|number| number as u64), Some(errno.number()));
-    }
-    let table = Table::new(IMAGE).unwrap();
-    let refusal = table.resolve(LAB, "none", OpenHow::new()).unwrap_err();
-    assert_eq!(Error::from(refusal).kind(), ErrorKind::NotFound);
-    assert_eq!(Error::from(check(b"").unwrap_err()).raw_os_error(), Some(117));
-    let odd = Error::from(Errno::Other(1 << 40));
-    assert_eq!(
-        (odd.raw_os_error(), odd.to_string().as_str()),
-        (None, "unknown errno (1099511627776)")
-    );
-}
-
-#[test]
-fn paths_are_bytes_of_many_types() {
-    let table = Table::new(IMAGE).unwrap();
-    let place = |path: &dyn AsPath| {
-        let found = table.resolve(LAB, path.path_bytes(), OpenHow::new());
-        found.map(|found| found.place.node)
-    };
-    assert_eq!(place(&"cal/tare"), Ok(3));
-    assert_eq!(place(b"cal/tare"), Ok(3));
-    assert_eq!(place(&&b"cal/tare"[..]), Ok(3));
-    assert_eq!(place(&c"cal/tare"), Ok(3));
-    // Taken as they are: not folded, cut off, or decoded.
-    let errno = |path: &dyn AsPath| place(path).map_err(|refusal| refusal.errno);
-    assert_eq!(errno(&"cal//./tare/"), Err(Errno::ENOTDIR));
-    assert_eq!(errno(&"cal/tare\0"), Err(Errno::EINVAL));
-    assert_eq!(errno(b"\xff\xfe"), Err(Errno::ENOENT));
-}
-
-#[cfg(all(unix, feature = "std"))]
-#[test]
-fn paths_are_bytes_of_stds_types_too() {
-    use std::borrow::Cow;
-    use std::ffi::{CString, OsStr, OsString};
-    use std::os::unix::ffi::OsStrExt;
-    use std::path::{Path, PathBuf};
-    let table = Table::new(IMAGE).unwrap();
-    fn found(table: &Table, path: impl AsPath) -> bool {
-        table.resolve(LAB, path, OpenHow::new()).is_ok_and(|found| found.place.node == 3)
-    }
-    assert!(found(&table, String::from("cal/tare")) && found(&table, b"cal/tare".to_vec()));
-    assert!(found(&table, CString::new("cal/tare").unwrap()));
-    assert!(found(&table, OsStr::new("cal/tare")) && found(&table, OsString::from("cal/tare")));
-    assert!(found(&table, Path::new("cal/tare")) && found(&table, &PathBuf::from("cal/tare")));
-    assert!(
-        found(&table, Cow::Borrowed("cal/tare")) && found(&table, Box::<str>::from("cal/tare"))
-    );
-    assert_eq!(OsStr::from_bytes(b"\xff").path_bytes(), b"\xff");
-}
-
-#[test]
-fn a_table_reads_its_records() {
-    let table = Table::new(IMAGE).unwrap();
-    assert_eq!(table.image(), IMAGE);
-    assert_eq!(table.root(), Handle::new(0, 0));
-    assert_eq!(format!("{table:?}"), "Table { nodes: 12, mounts: 2, entries: 10, .. }");
-
-    let kind = |(number, node): (u64, Node)| match node {
-        Node::Directory { parent, entries } => format!("{number} in {parent}: {}", entries.len()),
-        Node::File {} => format!("{number} file"),
-        Node::Link { body } => format!("{number} -> {}", body.escape_ascii()),
-        Node::MagicLink { target } => format!("{number} => {target}"),
-    };
-    let nodes = [
-        "0 in 0: 1",
-        "1 in 0: 2",
-        "2 in 1: 6",
-        "3 file",
-        "4 -> ../..",
-        "5 -> /lab/cal/tare",
-        "6 -> loop",
-        "7 in 1: 0",
-        "8 in 8: 1",
-        "9 file",
-        "10 => (0,3)",
-        "11 -> tare/",
-    ];
-    assert_eq!(table.nodes().map(kind).collect::<Vec<_>>(), nodes);
-    let mut backwards = table.nodes().rev().map(kind).collect::<Vec<_>>();
-    backwards.reverse();
-    assert_eq!(backwards, nodes);
-
-    let mounts = [(0, 0, 0, 0), (1, 8, 0, 7)];
-    let fields = |(number, mount): (u64, Mount)| (number, mount.root, mount.parent, mount.point);
-    assert_eq!(table.mounts().map(fields).collect::<Vec<_>>(), mounts);
-    assert_eq!(table.mounts().map(|(_, mount)| mount.place().to_string()).last().unwrap(), "(0,7)");
-
-    let of_directories = table.nodes().filter_map(|(_, node)| match node {
-        Node::Directory { entries, .. } => Some(entries),
-        _ => None,
-    });
-    assert_eq!(of_directories.flatten().collect::<Vec<_>>(), table.entries().collect::<Vec<_>>());
-    let first = "Entry { name: [108, 97, 98], node: 1 }";
-    assert!(format!("{:?}", table.entries()).starts_with(&format!("[{first}, Entry")));
-}
-
-#[test]
-fn records_are_found_by_number_and_no_further() {
-    let table = Table::new(IMAGE).unwrap();
-    for (number, node) in table.nodes() {
-        assert_eq!(format!("{:?}", table.node(number).unwrap()), format!("{node:?}"));
-    }
-    for (number, mount) in table.mounts() {
-        assert_eq!(table.mount(number), Some(mount));
-    }
-    for number in [12, 1 << 16, 1 << 32, u64::MAX] {
-        assert!(table.node(number).is_none() && table.mount(number).is_none());
-    }
-
-    let mut entries = table.entries();
-    assert_eq!(entries.nth(8).map(|entry| entry.name), Some(&b"up"[..]));
-    assert_eq!((entries.len(), entries.size_hint()), (1, (1, Some(1))));
-    assert_eq!(entries.next_back().map(|entry| entry.node), Some(9));
-    assert_eq!((entries.next(), entries.next(), entries.next_back()), (None, None, None));
-}
-
-#[test]
-fn a_table_is_refused_or_shared() {
-    fn shared<T: Copy + Send + Sync>(_: T) {}
-    shared(Table::new(IMAGE).unwrap());
-    assert_eq!(Table::try_from(IMAGE).unwrap().image(), IMAGE);
-    for len in 0..IMAGE.len() {
-        assert_eq!(Table::new(&IMAGE[..len]).err(), check(&IMAGE[..len]).err());
-    }
-}
-
-/// Mount 0's root need not be node 0.
-#[test]
-fn the_root_is_mount_0s() {
-    let mut image = IMAGE.to_vec();
-    let mount = 20 + 12 * 12;
-    (image[mount], image[mount + 4]) = (1, 1);
-    let table = Table::new(&image).unwrap();
-    assert_eq!(table.root(), Handle::new(0, 1));
-    let found = table.resolve(table.root(), "/cal", OpenHow::new()).unwrap();
-    assert_eq!(found.to_string(), "(0,2); 1 component, 0 links");
-}
-
 #[test]
 fn the_header_has_this_version() {
     let header = include_str!("../../../include/ventolaire.h");
@@ -379,10 +158,11 @@ fn any_input_is_answered() {
         let how: Vec<u8> = (0..random(40)).map(|_| (random(2) * random(32)) as u8).collect();
         let handle = Handle { mount: random(3) as u64, node: random(13) as u64, mark: false };
         let accepted = check(&image).is_ok();
-        let answer = resolve_raw(&image, handle, &path, &how);
+        let path = path.as_slice();
+        let answer = resolve_raw(&image, handle, path, &how);
         match Table::new(&image) {
             Ok(table) => {
-                assert_eq!(table.resolve_raw(handle, &path, &how), answer);
+                assert_eq!(table.resolve_raw(handle, path, &how), answer);
                 assert!(!format!("{:?} {:?}", table.nodes(), table.mounts()).is_empty());
             }
             Err(broken) => assert_eq!(Err(broken.into()), answer),
