@@ -139,8 +139,8 @@ macro_rules! bits {
             ///
             /// ```
             #[doc = bits!(@example $Set $One $Two)]
-            #[doc = concat!("const BOTH: Set = Set::", stringify!($One), ".union(Set::", stringify!($Two), ");")]
-            /// assert_eq!(BOTH, one | two);
+            /// const ALL: Set = Set::empty().union(Set::all());
+            /// assert_eq!(one.union(two) | ALL, ALL);
             /// ```
             pub const fn union(self, other: Self) -> Self {
                 $Set(self.0 | other.0)
