@@ -1,9 +1,9 @@
 //! One check, many calls: what a call from Rust costs by `ventolaire::resolve`,
 //! which checks the table each time, and by a `Table`, which was checked once.
 
-use crate::measure::nanoseconds;
+use crate::measure::{instructions, nanoseconds};
 use crate::tables::{bench_tree, Tree, LAB};
-use crate::{grouped, row};
+use crate::{grouped, number_of_calls, row};
 use std::error::Error;
 use std::hint::black_box;
 use ventolaire::{Found, Handle, OpenHow, Refusal, Table};
@@ -11,25 +11,13 @@ use ventolaire::{Found, Handle, OpenHow, Refusal, Table};
 const HANDLE: Handle = Handle::new(0, LAB);
 const PATH: &str = "cal/tare";
 
-type Answer = Result<Found, Refusal>;
+/// A table's name, what it is, and how it is built.
+type Named = (&'static str, &'static str, fn() -> Tree);
 
-/// Measures and prints a row for each table.
-pub fn measure() -> Result<(), Box<dyn Error>> {
-    row("table", &["bytes", "Table::new ns", "resolve ns", "Table::resolve ns"]);
-    row("---", &["---:"; 4]);
-    for (name, tree) in [("the bench tree", bench_tree()), ("the same among others", full_lab())] {
-        let image = tree.image();
-        let table = Table::new(&image)?;
-        let figures = [
-            image.len() as f64,
-            nanoseconds(|calls| checks(calls, &image)),
-            nanoseconds(|calls| repeat(calls, || checked_each_time(&image))),
-            nanoseconds(|calls| repeat(calls, || checked_once(&table))),
-        ];
-        row(name, &figures.map(grouped));
-    }
-    Ok(())
-}
+const TABLES: [Named; 2] = [
+    ("bench", "the bench tree", bench_tree),
+    ("full", "the same among other directories", full_lab),
+];
 
 /// The bench tree, and beside its lab 43 directories of 32 files and 8 absolute
 /// links each: some 62 KB.
@@ -52,19 +40,51 @@ fn full_lab() -> Tree {
     tree
 }
 
-fn checks(calls: u64, image: &[u8]) -> u64 {
-    (0..calls).filter(|_| Table::new(black_box(image)).is_ok()).count() as u64
+/// Measures both ways and prints a row for each table.
+pub fn measure() -> Result<(), Box<dyn Error>> {
+    row("cal/tare in", &["bytes", "resolve", "Table::resolve", "resolve ns", "Table::resolve ns"]);
+    row("---", &["---:"; 5]);
+    for (name, about, tree) in TABLES {
+        let image = tree().image();
+        let figures = [
+            image.len() as f64,
+            instructions(&["call", name, "resolve"], 10)?,
+            instructions(&["call", name, "table"], 1_000)?,
+            nanoseconds(|calls| each_time(&image, calls)),
+            nanoseconds(|calls| once(&image, calls)),
+        ];
+        row(about, &figures.map(grouped));
+    }
+    Ok(())
 }
 
-fn checked_each_time(image: &[u8]) -> Answer {
-    ventolaire::resolve(black_box(image), black_box(HANDLE), black_box(PATH), OpenHow::new())
+/// One of the ways, that many times; prints what hangs on the answers.
+pub fn run(table: &str, way: &str, calls: &str) -> Result<(), Box<dyn Error>> {
+    let found = TABLES.into_iter().find(|(name, ..)| *name == table);
+    let (.., tree) = found.ok_or_else(|| format!("no table {table}"))?;
+    let run = match way {
+        "resolve" => each_time,
+        "table" => once,
+        _ => return Err(format!("no way {way}").into()),
+    };
+    println!("{}", run(&tree().image(), number_of_calls(calls)?));
+    Ok(())
 }
 
-fn checked_once(table: &Table) -> Answer {
-    black_box(table).resolve(black_box(HANDLE), black_box(PATH), OpenHow::new())
+/// The table checked at each call.
+fn each_time(image: &[u8], calls: u64) -> u64 {
+    let call = || ventolaire::resolve(black_box(image), HANDLE, black_box(PATH), OpenHow::new());
+    repeat(calls, call)
 }
 
-fn repeat(calls: u64, call: impl Fn() -> Answer) -> u64 {
+/// The table checked once.
+fn once(image: &[u8], calls: u64) -> u64 {
+    let table = Table::new(image).expect("an accepted table");
+    repeat(calls, || black_box(&table).resolve(HANDLE, black_box(PATH), OpenHow::new()))
+}
+
+/// The components taken by all calls.
+fn repeat(calls: u64, call: impl Fn() -> Result<Found, Refusal>) -> u64 {
     (0..calls).filter_map(|_| black_box(call()).ok()).map(|found| found.components).sum()
 }
 
@@ -74,12 +94,12 @@ mod tests {
 
     #[test]
     fn both_ways_find_it() {
-        for (tree, bytes) in [(bench_tree(), 316..=316), (full_lab(), 61_500..=62_500)] {
-            let image = tree.image();
-            assert!(bytes.contains(&image.len()), "{}", image.len());
-            let answer = checked_once(&Table::new(&image).unwrap());
-            assert_eq!(answer.unwrap().to_string(), "(0,3); 2 components, 0 links");
-            assert_eq!(checked_each_time(&image), answer);
+        for ((name, _, tree), bytes) in TABLES.into_iter().zip([316..=316, 61_500..=62_500]) {
+            let image = tree().image();
+            assert!(bytes.contains(&image.len()), "{name}: {}", image.len());
+            let found = ventolaire::resolve(&image, HANDLE, PATH, OpenHow::new()).unwrap();
+            assert_eq!(found.to_string(), "(0,3); 2 components, 0 links");
+            assert_eq!((each_time(&image, 5), once(&image, 5)), (10, 10));
         }
     }
 }

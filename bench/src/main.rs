@@ -10,6 +10,8 @@
 //! bench all FILE        the first three, and a chart of the first two in FILE, as SVG
 //! bench run CASE plain|linear|proved CALLS
 //!                       one case, that many times
+//! bench call TABLE resolve|table CALLS
+//!                       one call of `bench calls`, that many times
 //! ```
 //!
 //! There are two baselines: `plain`, the rules written straight down, and
@@ -60,7 +62,7 @@ use std::process::ExitCode;
 use tables::cases;
 
 const USAGE: &str = "usage: bench list | table | growth | sweep | calls | all FILE \
-    | run CASE plain|linear|proved CALLS";
+    | run CASE plain|linear|proved CALLS | call TABLE resolve|table CALLS";
 
 fn main() -> ExitCode {
     let args: Vec<String> = std::env::args().skip(1).collect();
@@ -75,6 +77,8 @@ fn main() -> ExitCode {
         ["sweep"] => sweep::measure(),
         #[cfg(feature = "proved")]
         ["calls"] => calls::measure(),
+        #[cfg(feature = "proved")]
+        ["call", table, way, calls] => calls::run(table, way, calls),
         ["all", file] => all(file),
         ["run", case, side, calls] => run(case, side, calls),
         _ => Err(USAGE.into()),
@@ -110,9 +114,12 @@ fn run(case: &str, side: &str, calls: &str) -> Result<(), Box<dyn Error>> {
     let input = tables::input(case).or_else(|| growth::input(case)).or_else(|| sweep::input(case));
     let input = input.ok_or_else(|| format!("no case {case}; `bench list` names them"))?;
     let side = Side::named(side).ok_or_else(|| format!("no side {side} in this build"))?;
-    let calls = calls.parse().map_err(|_| format!("{calls} is no number of calls"))?;
-    println!("{}", side.run(&input, calls));
+    println!("{}", side.run(&input, number_of_calls(calls)?));
     Ok(())
+}
+
+fn number_of_calls(calls: &str) -> Result<u64, String> {
+    calls.parse().map_err(|_| format!("{calls} is no number of calls"))
 }
 
 /// All tables, and a chart of the first two.
