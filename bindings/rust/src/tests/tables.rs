@@ -1,6 +1,7 @@
 //! A checked table, and its records.
 
 use crate::bench_tree::IMAGE;
+use crate::records::Parts;
 use crate::*;
 
 #[test]
@@ -96,4 +97,19 @@ fn the_root_is_mount_0s() {
     assert_eq!(table.root(), Handle::new(0, 1));
     let found = table.resolve(table.root(), "/cal", OpenHow::new()).unwrap();
     assert_eq!(found.to_string(), "(0,2); 1 component, 0 links");
+}
+
+/// No table is made of such bytes; were one, its readers would still not panic.
+#[test]
+fn readers_do_not_panic_on_any_bytes() {
+    for len in 0..IMAGE.len() {
+        for byte in [0, 1, 3, 255] {
+            let mut image = IMAGE[..len].to_vec();
+            image.extend([byte; 40]);
+            let parts = Parts::of(&image);
+            let read = format!("{:?} {:?} {:?}", parts.nodes(), parts.entries(), parts.mounts());
+            assert!(!read.is_empty());
+        }
+    }
+    assert_eq!(Parts::of(b"TOC1").nodes().len(), 0);
 }
