@@ -11,11 +11,17 @@
  *   value is 0. Otherwise the whole answer is written, the return value is how
  *   many numbers that are, and what lies behind them is not touched. `out` must
  *   not overlap what is lent.
+ * - Later versions only append numbers to an answer: none changes its place or
+ *   its meaning. An array with room for the numbers that an answer has today
+ *   (the ..._LEN below) keeps getting these.
  * - Any bytes and any numbers may be passed: what is wrong with them is said by
  *   the answer. Only ventolaire_resolve_accepted asks for an accepted image.
  * - Nothing is allocated, and no state is kept between calls.
  *
  * The library needs no other library: cc program.c -L FOLDER -lventolaire
+ * A freestanding program must bring memset, and no other function. The headers
+ * below are a freestanding compiler's own. The table check takes up to 20 KiB of
+ * stack, and on x86-64 the code uses SSE2 registers.
  */
 #ifndef VENTOLAIRE_H
 #define VENTOLAIRE_H
@@ -27,6 +33,18 @@
 #ifdef __cplusplus
 extern "C" {
 #endif
+
+/*
+ * The version of this header and its library: three numbers, and one made of
+ * them that grows with every version, to be compared.
+ */
+#define VENTOLAIRE_VERSION_MAJOR 0
+#define VENTOLAIRE_VERSION_MINOR 1
+#define VENTOLAIRE_VERSION_PATCH 0
+#define VENTOLAIRE_VERSION                \
+    (VENTOLAIRE_VERSION_MAJOR * 1000000 + \
+     VENTOLAIRE_VERSION_MINOR * 1000 +    \
+     VENTOLAIRE_VERSION_PATCH)
 
 /*
  * How to resolve: the bytes of an open_how, little-endian.
@@ -53,6 +71,18 @@ extern "C" {
 #define VENTOLAIRE_RESOLVE_BENEATH UINT64_C(0x08)       /* never leave the handle */
 #define VENTOLAIRE_RESOLVE_IN_ROOT UINT64_C(0x10)       /* take the handle as "/" */
 
+/* Fills in the bytes of an open_how. */
+static inline void ventolaire_how(uint8_t how[VENTOLAIRE_HOW_SIZE],
+                                  uint64_t flags, uint64_t resolve)
+{
+    int i;
+    for (i = 0; i < 8; i++) {
+        how[i] = (uint8_t)(flags >> (8 * i));
+        how[8 + i] = 0;
+        how[16 + i] = (uint8_t)(resolve >> (8 * i));
+    }
+}
+
 /* Why a path is refused: Linux's numbers, whatever the host's are. */
 #define VENTOLAIRE_ENOENT 2        /* empty path, no such name, or mark broken */
 #define VENTOLAIRE_E2BIG 7         /* open_how too long, or something behind it */
@@ -63,6 +93,24 @@ extern "C" {
 #define VENTOLAIRE_ENAMETOOLONG 36 /* path over 4,095 bytes, or name over 255 */
 #define VENTOLAIRE_ELOOP 40        /* over 40 links, or a link not to be followed */
 #define VENTOLAIRE_EUCLEAN 117     /* the table check fails */
+
+/* The name of such a number, "EXDEV" for 18. Null for a number that has none
+ * here: 0, with which a path is found, and what a later library may add. */
+static inline const char *ventolaire_error_name(uint64_t error)
+{
+    switch (error) {
+    case VENTOLAIRE_ENOENT: return "ENOENT";
+    case VENTOLAIRE_E2BIG: return "E2BIG";
+    case VENTOLAIRE_EBADF: return "EBADF";
+    case VENTOLAIRE_EXDEV: return "EXDEV";
+    case VENTOLAIRE_ENOTDIR: return "ENOTDIR";
+    case VENTOLAIRE_EINVAL: return "EINVAL";
+    case VENTOLAIRE_ENAMETOOLONG: return "ENAMETOOLONG";
+    case VENTOLAIRE_ELOOP: return "ELOOP";
+    case VENTOLAIRE_EUCLEAN: return "EUCLEAN";
+    default: return NULL;
+    }
+}
 
 /*
  * Checks a table image.

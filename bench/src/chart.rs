@@ -37,10 +37,9 @@ pub fn draw(ratios: &[(&str, f64)], mean: f64, series: &[Series]) -> String {
 "##
     );
     bars(&mut svg, ratios, mean);
-    let _ = write!(
+    let _ = writeln!(
         svg,
-        r##"<text x="20" y="{:.1}" font-size="14">Instructions per call by size, both logarithmic: <tspan fill="{PLAIN}">plain</tspan>, <tspan fill="{PROVED}">proved</tspan></text>
-"##,
+        r##"<text x="20" y="{:.1}" font-size="14">Instructions per call by size, both logarithmic: <tspan fill="{PLAIN}">plain</tspan>, <tspan fill="{PROVED}">proved</tspan></text>"##,
         bars_end + 24.0
     );
     for (i, series) in series.iter().enumerate() {
@@ -58,20 +57,18 @@ fn bars(svg: &mut String, ratios: &[(&str, f64)], mean: f64) {
     let longest = ratios.iter().map(|&(_, ratio)| ratio).fold(1.0, f64::max).min(MOST);
     let x = |ratio: f64| LEFT + WIDTH * ratio.min(longest) / longest;
     let bottom = TOP + ROW * ratios.len() as f64;
-    let _ = write!(
+    let _ = writeln!(
         svg,
-        r##"<text x="20" y="24" font-size="14">Instructions per call, proved over plain</text>
-"##
+        r##"<text x="20" y="24" font-size="14">Instructions per call, proved over plain</text>"##
     );
     for (i, &(name, ratio)) in ratios.iter().enumerate() {
         let y = TOP + ROW * i as f64;
         let base = y + BAR - 3.0;
-        let _ = write!(
+        let _ = writeln!(
             svg,
             r##"<text x="{:.1}" y="{base:.1}" text-anchor="end">{name}</text>
 <rect x="{LEFT:.1}" y="{y:.1}" width="{:.1}" height="{BAR:.1}" fill="{PROVED}"/>
-<text x="{:.1}" y="{base:.1}">{ratio:.2}</text>
-"##,
+<text x="{:.1}" y="{base:.1}">{ratio:.2}</text>"##,
             LEFT - 8.0,
             x(ratio) - LEFT,
             x(ratio) + 5.0,
@@ -91,11 +88,10 @@ fn bars(svg: &mut String, ratios: &[(&str, f64)], mean: f64) {
     ] {
         let x = x(ratio);
         let from = TOP - 6.0;
-        let _ = write!(
+        let _ = writeln!(
             svg,
             r##"<line x1="{x:.1}" y1="{from:.1}" x2="{x:.1}" y2="{bottom:.1}" stroke="{colour}" stroke-dasharray="4 3"/>
-<text x="{x:.1}" y="{label_y:.1}" text-anchor="middle" fill="{colour}">{label}</text>
-"##
+<text x="{x:.1}" y="{label_y:.1}" text-anchor="middle" fill="{colour}">{label}</text>"##
         );
     }
 }
@@ -114,21 +110,19 @@ fn panel(svg: &mut String, series: &Series, left: f64, top: f64) {
     let high = costs().flatten().fold(1.0, f64::max).log10().ceil();
     let y = |cost: f64| bottom - (bottom - top) * (cost.log10() - low) / (high - low);
 
-    let _ = write!(
+    let _ = writeln!(
         svg,
         r##"<text x="{left:.1}" y="{:.1}">{}</text>
-<path d="M{left:.1} {top:.1}V{bottom:.1}H{right:.1}" fill="none" stroke="#333"/>
-"##,
+<path d="M{left:.1} {top:.1}V{bottom:.1}H{right:.1}" fill="none" stroke="#333"/>"##,
         top - 10.0,
         series.name
     );
     for power in low as i32..=high as i32 {
         let y = y(10f64.powi(power));
-        let _ = write!(
+        let _ = writeln!(
             svg,
             r##"<text x="{:.1}" y="{:.1}" text-anchor="end" font-size="10">10<tspan dy="-4" font-size="8">{power}</tspan></text>
-<line x1="{left:.1}" y1="{y:.1}" x2="{right:.1}" y2="{y:.1}" stroke="#ddd"/>
-"##,
+<line x1="{left:.1}" y1="{y:.1}" x2="{right:.1}" y2="{y:.1}" stroke="#ddd"/>"##,
             left - 5.0,
             y + 4.0,
         );
@@ -141,10 +135,9 @@ fn panel(svg: &mut String, series: &Series, left: f64, top: f64) {
             continue;
         }
         last = x;
-        let _ = write!(
+        let _ = writeln!(
             svg,
-            r##"<text x="{x:.1}" y="{:.1}" text-anchor="middle" font-size="10">{}</text>
-"##,
+            r##"<text x="{x:.1}" y="{:.1}" text-anchor="middle" font-size="10">{}</text>"##,
             bottom + 14.0,
             point.size
         );

@@ -6,24 +6,28 @@
 //! bench table           all cases: instructions and time per call
 //! bench growth          how instructions per call grow with the input
 //! bench sweep           instructions per call by the length of names and bodies
-//! bench all FILE        all three, and a chart of the first two in FILE, as SVG
+//! bench calls           a call from Rust, its table checked each time and once
+//! bench all FILE        the first three, and a chart of the first two in FILE, as SVG
 //! bench run CASE plain|linear|proved CALLS
 //!                       one case, that many times
+//! bench call TABLE resolve|table CALLS
+//!                       one call of `bench calls`, that many times
 //! ```
 //!
 //! There are two baselines: `plain`, the rules written straight down, and
 //! `linear`, for the table check alone, which takes time linear in the image even
 //! if the image is hostile.
 //!
-//! The proved side takes part if the crate is built with the feature `proved`
-//! and the variable `VENTOLAIRE_LIB` names the folder of `libventolaire.a`:
+//! The proved side takes part if the crate is built with the feature `proved`; the
+//! variable `VENTOLAIRE_LIB` names the folder of `libventolaire.a`, if that is not
+//! in target/staticlib:
 //!
 //! ```text
 //! VENTOLAIRE_LIB=FOLDER cargo run --release --features proved -- table
 //! ```
 //!
 //! `bench/run` proves and builds the library and does `bench all` with
-//! docs/speed.svg. What is printed is Markdown.
+//! docs/speed.svg, or what its arguments say. What is printed is Markdown.
 //!
 //! Instructions are counted with valgrind's callgrind. A table check is measured
 //! as it is. A walk is measured without the table check before it: the table is
@@ -32,7 +36,11 @@
 
 #[cfg(test)]
 mod agree;
+#[cfg(feature = "proved")]
+mod calls;
 mod chart;
+#[path = "../../bindings/rust/src/declared.rs"]
+mod declared;
 mod growth;
 mod hostile;
 mod linear;
@@ -53,8 +61,8 @@ use std::error::Error;
 use std::process::ExitCode;
 use tables::cases;
 
-const USAGE: &str = "usage: bench list | table | growth | sweep | all FILE \
-    | run CASE plain|linear|proved CALLS";
+const USAGE: &str = "usage: bench list | table | growth | sweep | calls | all FILE \
+    | run CASE plain|linear|proved CALLS | call TABLE resolve|table CALLS";
 
 fn main() -> ExitCode {
     let args: Vec<String> = std::env::args().skip(1).collect();
@@ -67,6 +75,10 @@ fn main() -> ExitCode {
         ["table"] => table().map(drop),
         ["growth"] => growth::measure().map(drop),
         ["sweep"] => sweep::measure(),
+        #[cfg(feature = "proved")]
+        ["calls"] => calls::measure(),
+        #[cfg(feature = "proved")]
+        ["call", table, way, calls] => calls::run(table, way, calls),
         ["all", file] => all(file),
         ["run", case, side, calls] => run(case, side, calls),
         _ => Err(USAGE.into()),
@@ -102,9 +114,12 @@ fn run(case: &str, side: &str, calls: &str) -> Result<(), Box<dyn Error>> {
     let input = tables::input(case).or_else(|| growth::input(case)).or_else(|| sweep::input(case));
     let input = input.ok_or_else(|| format!("no case {case}; `bench list` names them"))?;
     let side = Side::named(side).ok_or_else(|| format!("no side {side} in this build"))?;
-    let calls = calls.parse().map_err(|_| format!("{calls} is no number of calls"))?;
-    println!("{}", side.run(&input, calls));
+    println!("{}", side.run(&input, number_of_calls(calls)?));
     Ok(())
+}
+
+fn number_of_calls(calls: &str) -> Result<u64, String> {
+    calls.parse().map_err(|_| format!("{calls} is no number of calls"))
 }
 
 /// All tables, and a chart of the first two.

@@ -96,53 +96,62 @@ impl<'a> Measured<'a> {
         self.each(|side| self.instructions_of(side, 50))
     }
 
-    /// The difference between one call and many, each the best of five, so that
-    /// what goes before the first call cancels out.
     fn time(&self, side: Side) -> f64 {
-        let batch = |calls: u64| {
-            let start = Instant::now();
-            black_box(side.run(&self.input, calls));
-            start.elapsed()
-        };
-        let best = |calls| (0..5).map(|_| batch(calls)).min().unwrap_or_default();
-        let once = best(1);
-        let mut more = 1;
-        while batch(1 + more).saturating_sub(once) < Duration::from_millis(10) && more < 1 << 40 {
-            more *= 2;
-        }
-        best(1 + more).saturating_sub(once).as_nanos() as f64 / more as f64
+        nanoseconds(|calls| side.run(&self.input, calls))
     }
 
-    /// The difference of two runs under callgrind, for the same reason.
     fn instructions_of(&self, side: Side, more: u64) -> Result<f64, Box<dyn Error>> {
-        let few = self.collected(side, 1)?;
-        let many = self.collected(side, 1 + more)?;
-        let each = (many as f64 - few as f64) / more as f64;
-        // A compiler that sees through a call may make it once for all.
-        if each < 10.0 {
-            let (name, side) = (self.name, side.name());
-            return Err(format!("{name}: {side} did not make its calls one by one").into());
-        }
-        Ok(each)
+        instructions(&["run", self.name, side.name()], more)
     }
+}
 
-    /// The instructions of one whole run.
-    fn collected(&self, side: Side, calls: u64) -> Result<u64, Box<dyn Error>> {
-        let name = self.name;
-        let output = Command::new("valgrind")
-            .args(["--tool=callgrind", "--callgrind-out-file=/dev/null"])
-            .arg(std::env::current_exe()?)
-            .args(["run", name, side.name(), &calls.to_string()])
-            .output()
-            .map_err(|error| format!("valgrind: {error}"))?;
-        let stderr = String::from_utf8_lossy(&output.stderr);
-        if !output.status.success() {
-            return Err(format!("valgrind on {name}: {stderr}").into());
-        }
-        stderr
-            .lines()
-            .find(|line| line.contains("Collected"))
-            .and_then(|line| line.split_whitespace().last()?.parse().ok())
-            .ok_or_else(|| format!("valgrind on {name} collected nothing: {stderr}").into())
+/// The instructions of one call: the difference of two runs of this program under
+/// callgrind, for the same reason as that of times. The arguments lack the number
+/// of calls.
+pub fn instructions(arguments: &[&str], more: u64) -> Result<f64, Box<dyn Error>> {
+    let few = collected(arguments, 1)?;
+    let many = collected(arguments, 1 + more)?;
+    let each = (many as f64 - few as f64) / more as f64;
+    // A compiler that sees through a call may make it once for all.
+    if each < 10.0 {
+        return Err(format!("{}: the calls were not made one by one", arguments.join(" ")).into());
     }
+    Ok(each)
+}
+
+/// The instructions of one whole run.
+fn collected(arguments: &[&str], calls: u64) -> Result<u64, Box<dyn Error>> {
+    let output = Command::new("valgrind")
+        .args(["--tool=callgrind", "--callgrind-out-file=/dev/null"])
+        .arg(std::env::current_exe()?)
+        .args(arguments)
+        .arg(calls.to_string())
+        .output()
+        .map_err(|error| format!("valgrind: {error}"))?;
+    let stderr = String::from_utf8_lossy(&output.stderr);
+    if !output.status.success() {
+        return Err(format!("valgrind on {}: {stderr}", arguments.join(" ")).into());
+    }
+    stderr
+        .lines()
+        .find(|line| line.contains("Collected"))
+        .and_then(|line| line.split_whitespace().last()?.parse().ok())
+        .ok_or_else(|| format!("valgrind collected nothing: {stderr}").into())
+}
+
+/// The time of one call: the difference between one and many, each the best of
+/// five, so that what goes before the first call cancels out.
+pub fn nanoseconds(run: impl Fn(u64) -> u64) -> f64 {
+    let batch = |calls: u64| {
+        let start = Instant::now();
+        black_box(run(calls));
+        start.elapsed()
+    };
+    let best = |calls| (0..5).map(|_| batch(calls)).min().unwrap_or_default();
+    let once = best(1);
+    let mut more = 1;
+    while batch(1 + more).saturating_sub(once) < Duration::from_millis(10) && more < 1 << 40 {
+        more *= 2;
+    }
+    best(1 + more).saturating_sub(once).as_nanos() as f64 / more as f64
 }

@@ -1,50 +1,54 @@
 //! The proved side: Ventolaire's own library, called as a C program would.
 //!
-//! Of the binding in `bindings/rust` only the declarations are used. Its `check`
-//! makes a `Result` of the numbers, which costs 20 instructions a call, 1 % of
-//! the smallest case; and it leaves out `ventolaire_resolve_accepted`, which
-//! walks without the table check.
+//! What is measured goes by the C functions' declarations: by `bindings/rust` a
+//! call costs some 60 instructions more, most of them for its `Result`, which is
+//! 4 % of check-bench and 8 % of walk-tare; the plain side writes numbers too. All
+//! else is `bindings/rust`: a walk's table is checked by `Table`, and answers have
+//! to be the same by it.
 
-#[path = "../../bindings/rust/src/declared.rs"]
-mod declared;
-
-use crate::plain::Handle;
+use crate::declared::{ventolaire_check, ventolaire_resolve_accepted};
+use crate::plain;
 use crate::tables::Numbers;
 use crate::walk::{Accepted, UNWRITTEN};
-use declared::{ventolaire_check, ventolaire_resolve, ventolaire_resolve_accepted};
+use ventolaire::{Found, Handle, Refusal, Table};
 
 pub fn check(image: &[u8]) -> Numbers {
     let mut out = [UNWRITTEN; 2];
     // SAFETY: each pointer goes with the length of a slice that outlives the
-    // call, and the library writes to `out` alone. So in the call below.
+    // call, and the library writes to `out` alone.
     unsafe { ventolaire_check(image.as_ptr(), image.len(), out.as_mut_ptr(), out.len()) };
     let [rule, record] = out;
     [rule, record, 0, 0, 0, 0]
 }
 
-pub fn resolve(image: &[u8], handle: Handle, path: &[u8], how: &[u8]) -> Numbers {
-    let mut out = [UNWRITTEN; 6];
-    unsafe {
-        ventolaire_resolve(
-            image.as_ptr(),
-            image.len(),
-            handle.mount,
-            handle.node,
-            handle.mark,
-            path.as_ptr(),
-            path.len(),
-            how.as_ptr(),
-            how.len(),
-            out.as_mut_ptr(),
-            out.len(),
-        )
-    };
-    out
-}
-
 /// The image for walks by the library, which accepts it.
 pub fn accepted(image: &[u8]) -> Accepted<'_> {
-    assert_eq!(check(image)[0], 0, "walks are over accepted tables");
+    let table = table(image);
     // SAFETY: the library accepted the image, which is borrowed from now on.
-    unsafe { Accepted::new(image, ventolaire_resolve_accepted) }
+    unsafe { Accepted::new(table.image(), ventolaire_resolve_accepted) }
+}
+
+pub fn table(image: &[u8]) -> Table<'_> {
+    Table::new(image).expect("walks are over accepted tables")
+}
+
+/// The answers of `bindings/rust`: by the table, and with the check before it.
+pub fn resolve(image: &[u8], handle: plain::Handle, path: &[u8], how: &[u8]) -> [Numbers; 2] {
+    let handle = Handle { mount: handle.mount, node: handle.node, mark: handle.mark };
+    let answers = [
+        table(image).resolve_raw(handle, path, how),
+        ventolaire::resolve_raw(image, handle, path, how),
+    ];
+    answers.map(numbers)
+}
+
+fn numbers(answer: Result<Found, Refusal>) -> Numbers {
+    match answer {
+        Ok(Found { place, components, links, .. }) => {
+            [0, Refusal::NO_DETAIL, place.mount, place.node, components, links]
+        }
+        Err(Refusal { errno, detail, components, links, .. }) => {
+            [errno.number(), detail, 0, 0, components, links]
+        }
+    }
 }

@@ -75,10 +75,11 @@ impl Side {
             #[cfg(feature = "proved")]
             (Side::Proved, Call::Check) => vec![proved::check(image)],
             #[cfg(feature = "proved")]
-            (Side::Proved, &Call::Resolve { handle, ref path, ref how }) => vec![
-                proved::resolve(image, handle, path, how),
-                proved::accepted(image).resolve(handle, path, how),
-            ],
+            (Side::Proved, &Call::Resolve { handle, ref path, ref how }) => {
+                let mut answers = proved::resolve(image, handle, path, how).to_vec();
+                answers.push(proved::accepted(image).resolve(handle, path, how));
+                answers
+            }
         }
     }
 }

@@ -333,7 +333,7 @@ pub fn input(name: &str) -> Option<Input> {
 }
 
 /// The handle of the bench tree's calls.
-const LAB: u64 = 1;
+pub const LAB: u64 = 1;
 
 /// The check of a table without fault.
 pub fn accepted(tree: Tree) -> Input {

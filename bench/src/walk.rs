@@ -6,6 +6,7 @@
 //! does what the library's does besides the walk. What the crossing costs is
 //! thus in both figures, and the compiler sees through neither call.
 
+use crate::declared::Resolve;
 use crate::plain::{self, Handle};
 use crate::side::resolved;
 use crate::tables::Numbers;
@@ -15,22 +16,6 @@ use std::slice::{from_raw_parts, from_raw_parts_mut};
 /// What stands in an output before the call. It is part of no answer, so a call
 /// that writes nothing gives a wrong one.
 pub const UNWRITTEN: u64 = 0xA5A5_A5A5_A5A5_A5A5;
-
-/// The type of `ventolaire_resolve_accepted`: image, mount, node, mark, path,
-/// open_how and output, each pointer with its length.
-pub type Resolve = unsafe extern "C" fn(
-    *const u8,
-    usize,
-    u64,
-    u64,
-    bool,
-    *const u8,
-    usize,
-    *const u8,
-    usize,
-    *mut u64,
-    usize,
-) -> usize;
 
 /// An image that a side's check accepted, and the side's function for walks.
 pub struct Accepted<'a> {

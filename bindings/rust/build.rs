@@ -1,25 +1,67 @@
-//! Links libventolaire.a from the folder that VENTOLAIRE_LIB names.
+//! Finds libventolaire.a: in the folder that VENTOLAIRE_LIB names, else in
+//! target/staticlib of a folder above this one, where `rt staticlib` puts it.
+//!
+//! With neither there is a warning and no error: the documentation, and a check
+//! of the types, need no library. A program that is linked without it fails with
+//! the linker's message.
 
 use std::env;
-use std::path::Path;
+use std::path::{Path, PathBuf};
 use std::process::exit;
+
+const LIBRARY: &str = "libventolaire.a";
 
 fn main() {
     println!("cargo:rerun-if-changed=build.rs");
     println!("cargo:rerun-if-env-changed=VENTOLAIRE_LIB");
-    let Ok(folder) = env::var("VENTOLAIRE_LIB") else {
-        fail("VENTOLAIRE_LIB is not set: it has to name the folder of libventolaire.a");
-    };
+    println!("cargo:rerun-if-env-changed=DOCS_RS");
+    if env::var_os("DOCS_RS").is_some() {
+        return;
+    }
+    match named().or_else(above) {
+        Some(folder) => {
+            let folder = folder.display();
+            println!("cargo:rerun-if-changed={folder}/{LIBRARY}");
+            println!("cargo:rustc-link-search=native={folder}");
+            println!("cargo:rustc-link-lib=static=ventolaire");
+        }
+        None => println!(
+            "cargo:warning=no {LIBRARY}: VENTOLAIRE_LIB is not set, and no folder above has it in \
+             target/staticlib; programs cannot be linked"
+        ),
+    }
+}
+
+/// The folder that VENTOLAIRE_LIB names, which has to hold the library.
+fn named() -> Option<PathBuf> {
+    let folder = PathBuf::from(env::var_os("VENTOLAIRE_LIB")?);
+    let shown = folder.display();
     // Cargo runs this in the package's folder, not in the caller's.
-    if !Path::new(&folder).is_absolute() {
-        fail(&format!("VENTOLAIRE_LIB has to be an absolute path, not {folder}"));
+    if !folder.is_absolute() {
+        fail(&format!("VENTOLAIRE_LIB has to be an absolute path, not {shown}"));
     }
-    if !Path::new(&folder).join("libventolaire.a").is_file() {
-        fail(&format!("there is no libventolaire.a in {folder}, the folder in VENTOLAIRE_LIB"));
+    if !folder.join(LIBRARY).is_file() {
+        fail(&format!("there is no {LIBRARY} in {shown}, the folder in VENTOLAIRE_LIB"));
     }
-    println!("cargo:rerun-if-changed={folder}/libventolaire.a");
-    println!("cargo:rustc-link-search=native={folder}");
-    println!("cargo:rustc-link-lib=static=ventolaire");
+    Some(folder)
+}
+
+/// The nearest target/staticlib above this package that holds the library. Cargo
+/// looks for it again at each build until it is there.
+fn above() -> Option<PathBuf> {
+    let package = env::var_os("CARGO_MANIFEST_DIR")?;
+    let folders = Path::new(&package).ancestors().map(|folder| folder.join("target/staticlib"));
+    let mut passed = Vec::new();
+    for folder in folders {
+        if folder.join(LIBRARY).is_file() {
+            return Some(folder);
+        }
+        passed.push(folder);
+    }
+    for folder in passed {
+        println!("cargo:rerun-if-changed={}", folder.join(LIBRARY).display());
+    }
+    None
 }
 
 fn fail(message: &str) -> ! {

@@ -122,26 +122,23 @@ fn query(
     let mut handle = None;
     let mut mark = false;
     let mut json = false;
-    let mut how = OpenHow::default();
+    let mut how = OpenHow::new();
     let mut raw = None;
     let mut named = None;
     for (option, value) in options {
         match *option {
             "--handle" => {
-                let numbers = numbers(value);
                 let wrong = || format!("--handle wants MOUNT:NODE, not {}", value.display());
-                handle = Some(numbers.ok_or_else(wrong)?);
+                handle = Some(numbers(value).ok_or_else(wrong)?);
             }
             "--mark" => mark = true,
             "--json" => json = true,
             "--flag" => {
-                let flag = value.to_str().and_then(|name| Flags::from_name(&upper(name)));
-                how.flags |= flag.ok_or_else(|| no_name("flag", value, Flags::NAMED))?;
+                how.flags |= bit("flag", value, Flags::NAMED, Flags::from_name)?;
                 named = Some(option);
             }
             "--resolve" => {
-                let bit = value.to_str().and_then(|name| Resolve::from_name(&upper(name)));
-                how.resolve |= bit.ok_or_else(|| no_name("resolve bit", value, Resolve::NAMED))?;
+                how.resolve |= bit("resolve bit", value, Resolve::NAMED, Resolve::from_name)?;
                 named = Some(option);
             }
             _ => {
@@ -158,13 +155,18 @@ fn query(
     Ok(Query { image, path, handle, mark, how, json })
 }
 
-fn upper(name: &str) -> String {
-    name.to_ascii_uppercase()
-}
-
-fn no_name<T>(what: &str, given: &OsStr, named: &[(&str, T)]) -> String {
-    let names: Vec<&str> = named.iter().map(|(name, _)| *name).collect();
-    format!("no {what} is named {}; there are {}", given.display(), names.join(", "))
+/// The bit of a name, in letters of either case.
+fn bit<T>(
+    what: &str,
+    given: &OsStr,
+    named: &[(&str, T)],
+    from_name: impl Fn(&str) -> Option<T>,
+) -> Result<T, String> {
+    let bit = given.to_str().and_then(|name| from_name(&name.to_ascii_uppercase()));
+    bit.ok_or_else(|| {
+        let names: Vec<&str> = named.iter().map(|(name, _)| *name).collect();
+        format!("no {what} is named {}; there are {}", given.display(), names.join(", "))
+    })
 }
 
 /// The numbers of `M:N`.

@@ -4,6 +4,7 @@ use crate::{read_image, Output};
 use std::ffi::OsStr;
 use std::fmt::{Display, Write};
 use ventolaire::bench_tree::{Row, IMAGE, TABLE};
+use ventolaire::{Refusal, Table};
 
 /// Writes the bench tree's image, if a file is named, and compares the answers
 /// to its table with those expected.
@@ -19,9 +20,10 @@ pub fn run(file: Option<&OsStr>) -> Result<Output, String> {
         }
         None => IMAGE.to_vec(),
     };
+    let table = Table::new(&image).map_err(Refusal::from);
     let mut failed = 0;
     for row in TABLE {
-        let got = ventolaire::resolve(&image, row.handle, row.path, row.how);
+        let got = table.and_then(|table| table.resolve(row.handle, row.path, row.how));
         let right = got == row.answer;
         failed += usize::from(!right);
         // Writing to a string does not fail.
@@ -42,12 +44,10 @@ fn call(row: &Row) -> String {
     if row.handle.mark {
         call.push_str(" --mark");
     }
-    for (name, _) in ventolaire::Flags::NAMED.iter().filter(|(_, set)| row.how.flags.contains(*set))
-    {
+    for (name, _) in row.how.flags.iter_names() {
         let _ = write!(call, " --flag {name}");
     }
-    let resolve = ventolaire::Resolve::NAMED;
-    for (name, _) in resolve.iter().filter(|(_, set)| row.how.resolve.contains(*set)) {
+    for (name, _) in row.how.resolve.iter_names() {
         let _ = write!(call, " --resolve {name}");
     }
     call

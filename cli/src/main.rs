@@ -3,15 +3,13 @@
 mod arguments;
 mod demo;
 mod show;
-mod table;
 
 use arguments::{Command, How, Query};
 use std::ffi::OsStr;
 use std::fs::File;
 use std::io::{self, ErrorKind, Read, Write};
 use std::process::ExitCode;
-use table::Table;
-use ventolaire::{Found, Handle, Refusal};
+use ventolaire::{Found, Handle, Refusal, Table};
 
 const HELP: &str = "\
 ventolaire: resolves paths after Linux's openat2, in a table image
@@ -105,18 +103,9 @@ fn run(command: Command) -> Result<Output, String> {
         Command::Version => {
             Ok(Output::done(concat!("ventolaire ", env!("CARGO_PKG_VERSION"), "\n")))
         }
-        Command::Check { image } => Ok(match ventolaire::check(&read_image(&image)?) {
-            Ok(()) => Output::done("accepted\n"),
-            Err(broken) => Output::refused(format!("{broken}\n")),
-        }),
-        Command::Show { image, dot } => {
-            let image = read_image(&image)?;
-            Ok(match ventolaire::check(&image) {
-                Ok(()) if dot => Output::done(show::dot(&read_table(&image)?)),
-                Ok(()) => Output::done(show::tree(&read_table(&image)?)),
-                Err(broken) => Output::refused(format!("{broken}\n")),
-            })
-        }
+        Command::Check { image } => checked(&image, |_| "accepted\n".into()),
+        Command::Show { image, dot: true } => checked(&image, show::dot),
+        Command::Show { image, dot: false } => checked(&image, show::tree),
         Command::Resolve(query) => resolve(&query),
         Command::Demo { file } => demo::run(file.as_deref()),
     }
@@ -131,26 +120,17 @@ fn read_image(file: &OsStr) -> Result<Vec<u8>, String> {
     Ok(bytes)
 }
 
-fn read_table(accepted: &[u8]) -> Result<Table<'_>, String> {
-    Table::read(accepted).ok_or_else(|| "the image was accepted but cannot be read".into())
+/// What a command says of a table, or why the table is refused.
+fn checked(file: &OsStr, say: impl Fn(&Table) -> String) -> Result<Output, String> {
+    Ok(match Table::new(&read_image(file)?) {
+        Ok(table) => Output::done(say(&table)),
+        Err(broken) => Output::refused(format!("{broken}\n")),
+    })
 }
 
 fn resolve(query: &Query) -> Result<Output, String> {
     let image = read_image(&query.image)?;
-    let place = match query.handle {
-        Some((mount, node)) => Handle::new(mount, node),
-        // With a table that is refused, any handle is.
-        None => match ventolaire::check(&image) {
-            Ok(()) => Handle::new(0, read_table(&image)?.root() as u64),
-            Err(_) => Handle::new(0, 0),
-        },
-    };
-    let handle = Handle { mark: query.mark, ..place };
-    let path = query.path.as_encoded_bytes();
-    let answer = match &query.how {
-        How::Named(how) => ventolaire::resolve(&image, handle, path, *how),
-        How::Raw(bytes) => ventolaire::resolve_raw(&image, handle, path, bytes),
-    };
+    let answer = Table::new(&image).map_err(Refusal::from).and_then(|table| answer(&table, query));
     let text = match answer {
         answer if query.json => json(answer),
         Ok(found) => format!("{found}\n"),
@@ -159,13 +139,22 @@ fn resolve(query: &Query) -> Result<Output, String> {
     Ok(Output { text, refused: answer.is_err() })
 }
 
+fn answer(table: &Table, query: &Query) -> Result<Found, Refusal> {
+    let place = query.handle.map_or(table.root(), |(mount, node)| Handle::new(mount, node));
+    let handle = Handle { mark: query.mark, ..place };
+    match &query.how {
+        How::Named(how) => table.resolve(handle, &query.path, *how),
+        How::Raw(bytes) => table.resolve_raw(handle, &query.path, bytes),
+    }
+}
+
 fn json(answer: Result<Found, Refusal>) -> String {
     match answer {
-        Ok(Found { place, components, links }) => format!(
+        Ok(Found { place, components, links, .. }) => format!(
             "{{\"found\":true,\"mount\":{},\"node\":{},\"components\":{components},\"links\":{links}}}\n",
             place.mount, place.node
         ),
-        Err(Refusal { errno, detail, components, links }) => format!(
+        Err(Refusal { errno, detail, components, links, .. }) => format!(
             "{{\"found\":false,\"errno\":{},\"name\":\"{}\",\"detail\":{detail},\"components\":{components},\"links\":{links}}}\n",
             errno.number(),
             errno.name()

@@ -1,35 +1,29 @@
 //! A table made readable.
 
-use crate::table::{Node, Table};
 use std::fmt::Write;
+use ventolaire::{Node, Table};
 
 /// The mounts, then the nodes: each tree from its top, and what no directory
 /// names. A directory stands where it is first named, each once.
 pub fn tree(table: &Table) -> String {
     let mut out = String::from("mounts\n");
     // Writing to a string does not fail, here and below.
-    for (number, mount) in table.mounts.iter().enumerate() {
+    for (number, mount) in table.mounts() {
         let _ = match number {
             0 => writeln!(out, "{number:>5}  root {}", mount.root),
-            _ => {
-                writeln!(
-                    out,
-                    "{number:>5}  root {}, on ({},{})",
-                    mount.root, mount.parent, mount.point
-                )
-            }
+            _ => writeln!(out, "{number:>5}  root {}, on {}", mount.root, mount.place()),
         };
     }
     out.push_str("nodes\n");
     let lists = Lists::of(table);
-    let mut shown = vec![false; table.nodes.len()];
-    for (top, node) in table.nodes.iter().enumerate() {
-        if matches!(node, Node::Directory { parent, .. } if *parent == top) {
+    let mut shown = vec![false; table.nodes().len()];
+    for (top, node) in table.nodes() {
+        if matches!(node, Node::Directory { parent, .. } if parent == top) {
             write_tree(&mut out, table, &lists, &mut shown, top);
         }
     }
-    for (number, node) in table.nodes.iter().enumerate().filter(|(number, _)| !shown[*number]) {
-        let _ = writeln!(out, "{number:>5}  (no name){}", about(node));
+    for (number, node) in table.nodes().filter(|(number, _)| !shown[*number as usize]) {
+        let _ = writeln!(out, "{number:>5}  (no name){}", about(&node));
     }
     out
 }
@@ -37,35 +31,31 @@ pub fn tree(table: &Table) -> String {
 /// What the records do not say at once.
 struct Lists {
     /// Of each node, the directories in it that have no name.
-    nameless: Vec<Vec<usize>>,
+    nameless: Vec<Vec<u64>>,
     /// Of each node, its parts in mounts, in words.
     mounts: Vec<Vec<String>>,
 }
 
 impl Lists {
     fn of(table: &Table) -> Self {
-        let count = table.nodes.len();
+        let count = table.nodes().len();
         let mut named = vec![false; count];
-        for node in &table.nodes {
-            if let Node::Directory { entries, .. } = node {
-                entries.iter().for_each(|&(_, to)| named[to] = true);
-            }
-        }
+        table.entries().for_each(|entry| named[entry.node as usize] = true);
         let mut nameless = vec![Vec::new(); count];
-        for (number, node) in table.nodes.iter().enumerate() {
+        for (number, node) in table.nodes() {
             match node {
-                Node::Directory { parent, .. } if *parent != number && !named[number] => {
-                    nameless[*parent].push(number);
+                Node::Directory { parent, .. } if parent != number && !named[number as usize] => {
+                    nameless[parent as usize].push(number);
                 }
                 _ => {}
             }
         }
         let mut mounts = vec![Vec::new(); count];
-        for (number, mount) in table.mounts.iter().enumerate() {
-            mounts[mount.root].push(format!("root of mount {number}"));
+        for (number, mount) in table.mounts() {
+            mounts[mount.root as usize].push(format!("root of mount {number}"));
             if number > 0 {
-                mounts[mount.point]
-                    .push(format!("mount {number} covers ({},{})", mount.parent, mount.point));
+                let covers = format!("mount {number} covers {}", mount.place());
+                mounts[mount.point as usize].push(covers);
             }
         }
         Lists { nameless, mounts }
@@ -74,38 +64,39 @@ impl Lists {
 
 /// A line to be written: a node with its name, below a directory or not.
 struct Line {
-    number: usize,
+    number: u64,
     name: String,
     /// What stands before it, and before the lines below it.
     before: String,
     before_below: String,
 }
 
-fn write_tree(out: &mut String, table: &Table, lists: &Lists, shown: &mut [bool], top: usize) {
+fn write_tree(out: &mut String, table: &Table, lists: &Lists, shown: &mut [bool], top: u64) {
     let start = Line { number: top, name: "".into(), before: "".into(), before_below: "".into() };
     // A stack of its own: trees may be thousands of directories deep.
     let mut waiting = vec![start];
     while let Some(Line { number, name, before, before_below }) = waiting.pop() {
-        let node = &table.nodes[number];
-        let _ = write!(out, "{number:>5}  {before}{name}{}", about(node));
-        if !lists.mounts[number].is_empty() {
-            let _ = write!(out, "  [{}]", lists.mounts[number].join("; "));
+        let Some(node) = table.node(number) else { continue };
+        let at = number as usize;
+        let _ = write!(out, "{number:>5}  {before}{name}{}", about(&node));
+        if !lists.mounts[at].is_empty() {
+            let _ = write!(out, "  [{}]", lists.mounts[at].join("; "));
         }
+        let was_shown = std::mem::replace(&mut shown[at], true);
         let Node::Directory { entries, .. } = node else {
-            shown[number] = true;
             out.push('\n');
             continue;
         };
-        if std::mem::replace(&mut shown[number], true) {
+        if was_shown {
             out.push_str("  (shown above)\n");
             continue;
         }
         out.push('\n');
-        let named = entries.iter().map(|&(name, to)| (printable(name), to));
-        let nameless = lists.nameless[number].iter().map(|&to| ("(no name)".into(), to));
-        let below: Vec<(String, usize)> = named.chain(nameless).collect();
+        let named = entries.map(|entry| (printable(entry.name), entry.node));
+        let nameless = lists.nameless[at].iter().map(|&to| ("(no name)".into(), to));
+        let below: Vec<(String, u64)> = named.chain(nameless).collect();
         let last = below.len();
-        let line = |(i, (name, number)): (usize, (String, usize))| {
+        let line = |(i, (name, number)): (usize, (String, u64))| {
             let (branch, on) =
                 if i + 1 == last { ("└── ", "    ") } else { ("├── ", "│   ") };
             let before = format!("{before_below}{branch}");
@@ -119,9 +110,9 @@ fn write_tree(out: &mut String, table: &Table, lists: &Lists, shown: &mut [bool]
 fn about(node: &Node) -> String {
     match node {
         Node::Directory { .. } => "/".into(),
-        Node::File => String::new(),
-        Node::Link { body } => format!(" -> {}", printable(body)),
-        Node::MagicLink { target } => format!(" => {target}"),
+        Node::Link { body, .. } => format!(" -> {}", printable(body)),
+        Node::MagicLink { target, .. } => format!(" => {target}"),
+        _ => String::new(),
     }
 }
 
@@ -130,37 +121,37 @@ fn about(node: &Node) -> String {
 pub fn dot(table: &Table) -> String {
     let mut out = String::from("digraph table {\n  rankdir=LR;\n  node [shape=box];\n");
     let lists = Lists::of(table);
-    for (number, node) in table.nodes.iter().enumerate() {
+    for (number, node) in table.nodes() {
         let (shape, body) = match node {
             Node::Directory { .. } => ("folder", None),
-            Node::File => ("note", None),
-            Node::Link { body } => ("cds", Some(printable(body))),
+            Node::Link { body, .. } => ("cds", Some(printable(body))),
             Node::MagicLink { .. } => ("cds", None),
+            _ => ("note", None),
         };
         let body = body.map(|body| format!("\\n{}", quoted(&body))).unwrap_or_default();
         let _ = writeln!(out, "  n{number} [shape={shape}, label=\"{number}{body}\"];");
     }
-    for (number, node) in table.nodes.iter().enumerate() {
+    for (number, node) in table.nodes() {
         match node {
             Node::Directory { entries, .. } => {
-                for (name, to) in entries {
-                    let name = quoted(&printable(name));
+                for entry in entries {
+                    let (to, name) = (entry.node, quoted(&printable(entry.name)));
                     let _ = writeln!(out, "  n{number} -> n{to} [label=\"{name}\"];");
                 }
-                for to in &lists.nameless[number] {
+                for to in &lists.nameless[number as usize] {
                     let _ = writeln!(out, "  n{number} -> n{to} [style=dotted];");
                 }
             }
-            Node::MagicLink { target } => {
+            Node::MagicLink { target, .. } => {
                 let to = target.node;
                 let _ = writeln!(out, "  n{number} -> n{to} [style=dashed, label=\"{target}\"];");
             }
-            Node::File | Node::Link { .. } => {}
+            _ => {}
         }
     }
-    for (number, mount) in table.mounts.iter().enumerate().skip(1) {
-        let (parent, point, root) = (mount.parent, mount.point, mount.root);
-        let label = format!("mount {number} on ({parent},{point})");
+    for (number, mount) in table.mounts().skip(1) {
+        let (point, root) = (mount.point, mount.root);
+        let label = format!("mount {number} on {}", mount.place());
         let _ = writeln!(out, "  n{point} -> n{root} [style=bold, label=\"{label}\"];");
     }
     out.push_str("}\n");

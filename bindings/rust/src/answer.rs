@@ -1,10 +1,31 @@
 use crate::{Errno, Place};
-use std::error::Error;
-use std::fmt;
+use core::error::Error;
+use core::fmt;
+
+/// The answer of the six numbers that the library writes.
+pub(crate) fn of(numbers: [u64; 6]) -> Result<Found, Refusal> {
+    let [errno, detail, mount, node, components, links] = numbers;
+    match errno {
+        0 => Ok(Found { place: Place { mount, node }, components, links }),
+        _ => Err(Refusal { errno: Errno::from_number(errno), detail, components, links }),
+    }
+}
 
 /// What a path leads to.
+///
+/// ```
+/// use ventolaire::{bench_tree, OpenHow, Table};
+///
+/// let table = Table::new(bench_tree::IMAGE)?;
+/// let found = table.resolve(table.root(), "lab/cal/abs", OpenHow::new())?;
+/// assert_eq!((found.place.node, found.components, found.links), (3, 6, 1));
+/// assert_eq!(found.to_string(), "(0,3); 6 components, 1 link");
+/// # Ok::<(), Box<dyn std::error::Error>>(())
+/// ```
 #[derive(Clone, Copy, Debug, PartialEq, Eq, Hash)]
+#[non_exhaustive]
 pub struct Found {
+    /// The place.
     pub place: Place,
     /// Components taken, at most 83,968.
     pub components: u64,
@@ -20,8 +41,28 @@ impl fmt::Display for Found {
 }
 
 /// Why a path leads nowhere, and how far it led.
+///
+/// As a `std::io::Error` it is the one of its errno's number, Linux's whatever the
+/// host is; what else it says is lost.
+///
+/// ```
+/// # #[cfg(feature = "std")] {
+/// use std::io;
+/// use ventolaire::{bench_tree, Place, Resolve, Table};
+///
+/// fn open(table: &Table, path: &str) -> io::Result<Place> {
+///     Ok(table.resolve(table.root(), path, Resolve::NO_XDEV)?.place)
+/// }
+///
+/// let table = Table::new(bench_tree::IMAGE)?;
+/// assert_eq!(open(&table, "lab/pool/run").unwrap_err().raw_os_error(), Some(18));
+/// # }
+/// # Ok::<(), ventolaire::Broken>(())
+/// ```
 #[derive(Clone, Copy, Debug, PartialEq, Eq, Hash)]
+#[non_exhaustive]
 pub struct Refusal {
+    /// The reason.
     pub errno: Errno,
     /// The number of an unknown bit, as [`Refusal::unknown_bit`] reads it, or
     /// [`Refusal::NO_DETAIL`].
@@ -34,10 +75,25 @@ pub struct Refusal {
 
 impl Refusal {
     /// The detail of every refusal but that of an unknown bit.
+    ///
+    /// ```
+    /// use ventolaire::{bench_tree, resolve, Handle, OpenHow, Refusal};
+    ///
+    /// let refusal = resolve(bench_tree::IMAGE, Handle::new(0, 1), "", OpenHow::new());
+    /// assert_eq!(refusal.unwrap_err().detail, Refusal::NO_DETAIL);
+    /// ```
     pub const NO_DETAIL: u64 = 255;
 
     /// The unknown bit that was refused, if that was the reason.
-    pub fn unknown_bit(&self) -> Option<UnknownBit> {
+    ///
+    /// ```
+    /// use ventolaire::{bench_tree, resolve, Flags, Handle, UnknownBit};
+    ///
+    /// let flags = Flags::PATH | Flags::from_bits_retain(1 << 18);
+    /// let refusal = resolve(bench_tree::IMAGE, Handle::new(0, 1), "cal", flags).unwrap_err();
+    /// assert_eq!(refusal.unknown_bit(), Some(UnknownBit::Flags(18)));
+    /// ```
+    pub const fn unknown_bit(&self) -> Option<UnknownBit> {
         match self.detail {
             bit @ 0..=63 => Some(UnknownBit::Flags(bit as u8)),
             bit @ 64..=127 => Some(UnknownBit::Resolve((bit - 64) as u8)),
@@ -59,8 +115,30 @@ impl fmt::Display for Refusal {
 
 impl Error for Refusal {}
 
+/// The refusal of every call on such a table.
+impl From<Broken> for Refusal {
+    fn from(_: Broken) -> Self {
+        let detail = Refusal::NO_DETAIL;
+        Refusal { errno: Errno::EUCLEAN, detail, components: 0, links: 0 }
+    }
+}
+
+#[cfg(feature = "std")]
+impl From<Refusal> for std::io::Error {
+    fn from(refusal: Refusal) -> Self {
+        refusal.errno.into()
+    }
+}
+
 /// The lowest bit of an open_how that is not known.
+///
+/// ```
+/// use ventolaire::UnknownBit;
+///
+/// assert_eq!(UnknownBit::Flags(18).to_string(), "unknown flags bit 18");
+/// ```
 #[derive(Clone, Copy, Debug, PartialEq, Eq, Hash)]
+#[non_exhaustive]
 pub enum UnknownBit {
     /// Bit 0 to 63 of the flags.
     Flags(u8),
@@ -79,8 +157,24 @@ impl fmt::Display for UnknownBit {
 
 /// Why a table is not accepted: the lowest rule broken, 1 to 7, and the lowest
 /// record that breaks it.
+///
+/// As a [`Refusal`] or a `std::io::Error` it is `EUCLEAN`, the answer to every call
+/// on such a table.
+///
+/// ```
+/// use ventolaire::{bench_tree, Errno, Refusal, Table};
+///
+/// let mut image = bench_tree::IMAGE.to_vec();
+/// image[20 + 12 * 3] = 9;
+/// let broken = Table::new(&image).unwrap_err();
+/// assert_eq!((broken.rule, broken.record), (4, 3));
+/// assert_eq!(broken.to_string(), "rule 4 broken by node 3");
+/// assert_eq!(Refusal::from(broken).errno, Errno::EUCLEAN);
+/// ```
 #[derive(Clone, Copy, Debug, PartialEq, Eq, Hash)]
+#[non_exhaustive]
 pub struct Broken {
+    /// The rule.
     pub rule: u64,
     /// Of the nodes for rules 4 and 7, of the entries for 5, of the mounts for
     /// 6; 0 for rules 1 to 3. For rule 4 it may be the count of nodes: then the
@@ -105,6 +199,13 @@ impl fmt::Display for Broken {
 }
 
 impl Error for Broken {}
+
+#[cfg(feature = "std")]
+impl From<Broken> for std::io::Error {
+    fn from(broken: Broken) -> Self {
+        Refusal::from(broken).into()
+    }
+}
 
 fn write_counts(f: &mut fmt::Formatter, components: u64, links: u64) -> fmt::Result {
     let s = |count| if count == 1 { "" } else { "s" };

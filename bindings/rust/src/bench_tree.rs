@@ -14,10 +14,25 @@
 //!     │   └── 11 t -> tare/
 //!     └── 7 pool
 //! ```
+//!
+//! ```
+//! use ventolaire::bench_tree::{IMAGE, TABLE};
+//! use ventolaire::Table;
+//!
+//! let table = Table::new(IMAGE)?;
+//! for row in TABLE {
+//!     assert_eq!(table.resolve(row.handle, row.path, row.how), row.answer);
+//! }
+//! # Ok::<(), ventolaire::Broken>(())
+//! ```
 
 use crate::{Errno, Flags, Found, Handle, OpenHow, Place, Refusal, Resolve};
 
 /// The table image.
+///
+/// ```
+/// assert_eq!(ventolaire::check(ventolaire::bench_tree::IMAGE), Ok(()));
+/// ```
 #[rustfmt::skip]
 pub const IMAGE: &[u8] = &[
     b'T', b'O', b'C', b'1',
@@ -62,17 +77,31 @@ pub const IMAGE: &[u8] = &[
 ];
 
 /// A call on the bench tree and its answer.
+///
+/// ```
+/// let first = &ventolaire::bench_tree::TABLE[0];
+/// assert_eq!((first.name, first.path), ("P1", "cal/tare"));
+/// ```
 #[derive(Clone, Copy, Debug)]
+#[non_exhaustive]
 pub struct Row {
     /// As the project's scope names it, or "-".
     pub name: &'static str,
+    /// Where the path starts.
     pub handle: Handle,
+    /// The path.
     pub path: &'static str,
+    /// How to resolve it.
     pub how: OpenHow,
+    /// The answer.
     pub answer: Result<Found, Refusal>,
 }
 
 /// The calls, all from the handle `lab`.
+///
+/// ```
+/// assert_eq!(ventolaire::bench_tree::TABLE.len(), 19);
+/// ```
 #[rustfmt::skip]
 pub const TABLE: &[Row] = &[
     row("P1", "cal/tare", found(0, 3, 2, 0)),
@@ -96,11 +125,10 @@ pub const TABLE: &[Row] = &[
     row("-", "/", found(0, 0, 0, 0)),
 ];
 
-const UNFOLLOWED: Flags = Flags::from_bits(Flags::PATH.bits() | Flags::NOFOLLOW.bits());
+const UNFOLLOWED: Flags = Flags::PATH.union(Flags::NOFOLLOW);
 
 const fn row(name: &'static str, path: &'static str, answer: Result<Found, Refusal>) -> Row {
-    let how = OpenHow { flags: Flags::empty(), resolve: Resolve::empty() };
-    Row { name, handle: Handle::new(0, 1), path, how, answer }
+    Row { name, handle: Handle::new(0, 1), path, how: OpenHow::new(), answer }
 }
 
 impl Row {
@@ -109,11 +137,11 @@ impl Row {
     }
 
     const fn flagged(self, flags: Flags) -> Self {
-        Row { how: OpenHow { flags, ..self.how }, ..self }
+        Row { how: self.how.flags(flags), ..self }
     }
 
     const fn with(self, resolve: Resolve) -> Self {
-        Row { how: OpenHow { resolve, ..self.how }, ..self }
+        Row { how: self.how.resolve(resolve), ..self }
     }
 }
 

@@ -2,6 +2,22 @@
 //! Rust program here: `bench` and `tests/compare` take this file by its path.
 #![allow(dead_code)] // no program calls all of them
 
+/// The type of both functions that resolve: image, mount, node, mark, path,
+/// open_how and output, each pointer with its length.
+pub type Resolve = unsafe extern "C" fn(
+    *const u8,
+    usize,
+    u64,
+    u64,
+    bool,
+    *const u8,
+    usize,
+    *const u8,
+    usize,
+    *mut u64,
+    usize,
+) -> usize;
+
 extern "C" {
     pub fn ventolaire_check(
         image: *const u8,

@@ -1,13 +1,14 @@
-use std::fmt;
+use core::error::Error;
+use core::fmt;
 
 /// Why a path is refused, by Linux's names and numbers.
 ///
 /// ```
 /// use ventolaire::Errno;
 ///
-/// assert_eq!(Errno::EXDEV.number(), 18);
 /// assert_eq!(Errno::EXDEV.to_string(), "EXDEV (18)");
-/// assert_eq!(Errno::from_number(40), Errno::ELOOP);
+/// # #[cfg(feature = "std")]
+/// assert_eq!(std::io::Error::from(Errno::EXDEV).raw_os_error(), Some(18));
 /// ```
 #[derive(Clone, Copy, Debug, PartialEq, Eq, Hash)]
 #[non_exhaustive]
@@ -36,7 +37,13 @@ pub enum Errno {
 
 impl Errno {
     /// All that have a name, in the library's order.
-    pub const ALL: [Errno; 9] = [
+    ///
+    /// ```
+    /// use ventolaire::Errno;
+    ///
+    /// assert!(Errno::ALL.contains(&Errno::ELOOP));
+    /// ```
+    pub const ALL: &'static [Errno] = &[
         Errno::EUCLEAN,
         Errno::E2BIG,
         Errno::EINVAL,
@@ -49,12 +56,23 @@ impl Errno {
     ];
 
     /// The errno of a number.
+    ///
+    /// ```
+    /// use ventolaire::Errno;
+    ///
+    /// assert_eq!(Errno::from_number(2), Errno::ENOENT);
+    /// assert_eq!(Errno::from_number(1), Errno::Other(1));
+    /// ```
     pub fn from_number(number: u64) -> Self {
-        let known = Errno::ALL.into_iter().find(|errno| errno.number() == number);
-        known.unwrap_or(Errno::Other(number))
+        let known = Errno::ALL.iter().find(|errno| errno.number() == number);
+        known.copied().unwrap_or(Errno::Other(number))
     }
 
     /// Its number.
+    ///
+    /// ```
+    /// assert_eq!(ventolaire::Errno::EUCLEAN.number(), 117);
+    /// ```
     pub const fn number(self) -> u64 {
         match self {
             Errno::EUCLEAN => 117,
@@ -71,6 +89,10 @@ impl Errno {
     }
 
     /// Its name, such as `"EXDEV"`.
+    ///
+    /// ```
+    /// assert_eq!(ventolaire::Errno::E2BIG.name(), "E2BIG");
+    /// ```
     pub const fn name(self) -> &'static str {
         match self {
             Errno::EUCLEAN => "EUCLEAN",
@@ -90,5 +112,18 @@ impl Errno {
 impl fmt::Display for Errno {
     fn fmt(&self, f: &mut fmt::Formatter) -> fmt::Result {
         write!(f, "{} ({})", self.name(), self.number())
+    }
+}
+
+impl Error for Errno {}
+
+/// The error of its number, which is Linux's, whatever the host's numbers are.
+#[cfg(feature = "std")]
+impl From<Errno> for std::io::Error {
+    fn from(errno: Errno) -> Self {
+        match i32::try_from(errno.number()) {
+            Ok(number) => std::io::Error::from_raw_os_error(number),
+            Err(_) => std::io::Error::other(errno),
+        }
     }
 }

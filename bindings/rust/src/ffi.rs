@@ -1,6 +1,7 @@
-//! The library's C functions called, and all of this crate that is unsafe.
+//! The library's C functions called, and nearly all of this crate that is unsafe:
+//! besides, `Table` says that its image was accepted.
 
-use crate::declared::{ventolaire_check, ventolaire_resolve, ventolaire_resolve_accepted};
+use crate::declared::{ventolaire_check, ventolaire_resolve, ventolaire_resolve_accepted, Resolve};
 use crate::Handle;
 
 /// What stands in an output before the call. Neither a rule nor an errno, so
@@ -19,24 +20,8 @@ pub fn check(image: &[u8]) -> [u64; 2] {
 
 /// Errno, detail, mount, node, components and links.
 pub fn resolve(image: &[u8], handle: Handle, path: &[u8], how: &[u8]) -> [u64; 6] {
-    let mut out = [UNWRITTEN; 6];
-    // SAFETY: as in `check`; `path` and `how` are read as `image` is.
-    unsafe {
-        ventolaire_resolve(
-            image.as_ptr(),
-            image.len(),
-            handle.mount,
-            handle.node,
-            handle.mark,
-            path.as_ptr(),
-            path.len(),
-            how.as_ptr(),
-            how.len(),
-            out.as_mut_ptr(),
-            out.len(),
-        )
-    };
-    out
+    // SAFETY: this function takes any bytes for an image.
+    unsafe { resolve_by(ventolaire_resolve, image, handle, path, how) }
 }
 
 /// As [`resolve`], without the table check.
@@ -44,13 +29,27 @@ pub fn resolve(image: &[u8], handle: Handle, path: &[u8], how: &[u8]) -> [u64; 6
 /// # Safety
 ///
 /// [`check`] has accepted `image`.
-#[allow(dead_code)] // nothing in the safe interface holds a checked image
 pub unsafe fn resolve_accepted(image: &[u8], handle: Handle, path: &[u8], how: &[u8]) -> [u64; 6] {
+    // SAFETY: that the image is accepted is the caller's word, and it has not
+    // changed since it is borrowed.
+    unsafe { resolve_by(ventolaire_resolve_accepted, image, handle, path, how) }
+}
+
+/// # Safety
+///
+/// The image is one that the function takes.
+#[inline]
+unsafe fn resolve_by(
+    function: Resolve,
+    image: &[u8],
+    handle: Handle,
+    path: &[u8],
+    how: &[u8],
+) -> [u64; 6] {
     let mut out = [UNWRITTEN; 6];
-    // SAFETY: as in `resolve`; that the image is accepted is the caller's word,
-    // and it has not changed since it is borrowed.
+    // SAFETY: as in `check`; `path` and `how` are read as `image` is.
     unsafe {
-        ventolaire_resolve_accepted(
+        function(
             image.as_ptr(),
             image.len(),
             handle.mount,
@@ -104,36 +103,23 @@ mod tests {
         writes_all_or_nothing([0, 0], |out, out_len| unsafe {
             ventolaire_check(IMAGE.as_ptr(), IMAGE.len(), out, out_len)
         });
-        writes_all_or_nothing([0, 255, 0, 3, 5, 1], |out, out_len| unsafe {
-            ventolaire_resolve(
-                IMAGE.as_ptr(),
-                IMAGE.len(),
-                0,
-                1,
-                false,
-                path.as_ptr(),
-                path.len(),
-                how.as_ptr(),
-                how.len(),
-                out,
-                out_len,
-            )
-        });
-        writes_all_or_nothing([0, 255, 0, 3, 5, 1], |out, out_len| unsafe {
-            ventolaire_resolve_accepted(
-                IMAGE.as_ptr(),
-                IMAGE.len(),
-                0,
-                1,
-                false,
-                path.as_ptr(),
-                path.len(),
-                how.as_ptr(),
-                how.len(),
-                out,
-                out_len,
-            )
-        });
+        for function in [ventolaire_resolve as Resolve, ventolaire_resolve_accepted] {
+            writes_all_or_nothing([0, 255, 0, 3, 5, 1], |out, out_len| unsafe {
+                function(
+                    IMAGE.as_ptr(),
+                    IMAGE.len(),
+                    0,
+                    1,
+                    false,
+                    path.as_ptr(),
+                    path.len(),
+                    how.as_ptr(),
+                    how.len(),
+                    out,
+                    out_len,
+                )
+            });
+        }
         writes_all_or_nothing([117, 7, 22, 36, 2, 9, 20, 40, 18], |out, out_len| unsafe {
             ventolaire_errnos(out, out_len)
         });
@@ -160,7 +146,7 @@ mod tests {
         let mut out = [UNWRITTEN; 9];
         assert_eq!(unsafe { ventolaire_errnos(out.as_mut_ptr(), out.len()) }, 9);
         assert_eq!(out.map(Errno::from_number), Errno::ALL);
-        assert_eq!(Errno::ALL.map(Errno::number), out);
+        assert_eq!(out, *Errno::ALL.iter().map(|errno| errno.number()).collect::<Vec<_>>());
     }
 
     #[test]

@@ -1,92 +1,4 @@
-use std::fmt;
-use std::ops::{BitOr, BitOrAssign};
-
-/// Defines a set of named bits. Any 64 bits are a set: it is the library that
-/// refuses those it does not know.
-macro_rules! bits {
-    (
-        $(#[$about:meta])*
-        $Set:ident, $prefix:literal {
-            $($(#[$about_bit:meta])* $BIT:ident = $value:literal,)*
-        }
-    ) => {
-        $(#[$about])*
-        #[derive(Clone, Copy, Debug, Default, PartialEq, Eq, Hash)]
-        pub struct $Set(u64);
-
-        impl $Set {
-            $($(#[$about_bit])* pub const $BIT: $Set = $Set($value);)*
-
-            /// All named bits with their full names.
-            pub const NAMED: &'static [(&'static str, $Set)] =
-                &[$((concat!($prefix, stringify!($BIT)), $Set::$BIT),)*];
-
-            /// No bits.
-            pub const fn empty() -> Self {
-                $Set(0)
-            }
-
-            /// These bits, known or not.
-            pub const fn from_bits(bits: u64) -> Self {
-                $Set(bits)
-            }
-
-            /// The bit of this name, with or without its prefix.
-            pub fn from_name(name: &str) -> Option<Self> {
-                let bare = name.strip_prefix($prefix).unwrap_or(name);
-                let named = $Set::NAMED.iter().find(|(full, _)| full[$prefix.len()..] == *bare);
-                named.map(|&(_, set)| set)
-            }
-
-            pub const fn bits(self) -> u64 {
-                self.0
-            }
-
-            pub const fn is_empty(self) -> bool {
-                self.0 == 0
-            }
-
-            /// Whether all bits of `other` are set.
-            pub const fn contains(self, other: Self) -> bool {
-                self.0 & other.0 == other.0
-            }
-        }
-
-        impl BitOr for $Set {
-            type Output = Self;
-
-            fn bitor(self, other: Self) -> Self {
-                $Set(self.0 | other.0)
-            }
-        }
-
-        impl BitOrAssign for $Set {
-            fn bitor_assign(&mut self, other: Self) {
-                self.0 |= other.0;
-            }
-        }
-
-        /// The names with bars between them, what has no name as a number.
-        impl fmt::Display for $Set {
-            fn fmt(&self, f: &mut fmt::Formatter) -> fmt::Result {
-                if self.is_empty() {
-                    return f.write_str("0");
-                }
-                let mut nameless = self.0;
-                let mut bar = "";
-                for &(name, set) in $Set::NAMED.iter().filter(|(_, set)| self.contains(*set)) {
-                    write!(f, "{bar}{name}")?;
-                    nameless &= !set.0;
-                    bar = " | ";
-                }
-                if nameless != 0 {
-                    write!(f, "{bar}{nameless:#x}")?;
-                }
-                Ok(())
-            }
-        }
-    };
-}
+use crate::bits::bits;
 
 bits! {
     /// The flags of an [`OpenHow`].
@@ -96,9 +8,11 @@ bits! {
     ///
     /// let flags = Flags::PATH | Flags::NOFOLLOW;
     /// assert_eq!(flags.to_string(), "O_NOFOLLOW | O_PATH");
-    /// assert_eq!(Flags::from_name("O_PATH"), Some(Flags::PATH));
+    /// assert_eq!(format!("{flags:?}"), "Flags(O_NOFOLLOW | O_PATH)");
+    /// assert_eq!("PATH|O_NOFOLLOW".parse(), Ok(flags));
+    /// assert_eq!(flags & !Flags::PATH, Flags::NOFOLLOW);
     /// ```
-    Flags, "O_" {
+    Flags, "O_", PATH, NOFOLLOW {
         /// Find directories only.
         DIRECTORY = 0x1_0000,
         /// Do not follow a link that is the last component.
@@ -116,11 +30,12 @@ bits! {
     /// ```
     /// use ventolaire::Resolve;
     ///
-    /// let resolve = Resolve::NO_XDEV | Resolve::from_bits(1 << 40);
+    /// let resolve = Resolve::NO_XDEV | Resolve::from_bits_retain(1 << 40);
     /// assert_eq!(resolve.to_string(), "RESOLVE_NO_XDEV | 0x10000000000");
+    /// assert_eq!(resolve.to_string().parse(), Ok(resolve));
     /// assert!(resolve.contains(Resolve::NO_XDEV));
     /// ```
-    Resolve, "RESOLVE_" {
+    Resolve, "RESOLVE_", BENEATH, NO_XDEV {
         /// Stay in the mount.
         NO_XDEV = 1,
         /// Follow no magic link.
@@ -137,40 +52,90 @@ bits! {
 /// How to resolve a path, after openat2's `struct open_how`; its mode is 0.
 ///
 /// ```
-/// use ventolaire::{OpenHow, Resolve};
+/// use ventolaire::{Flags, OpenHow, Resolve};
 ///
-/// let how = OpenHow { resolve: Resolve::BENEATH, ..OpenHow::default() };
-/// let mut bytes = [0; OpenHow::LEN];
-/// bytes[16] = 8;
-/// assert_eq!(how.to_bytes(), bytes);
+/// const HOW: OpenHow = OpenHow::new().flags(Flags::PATH).resolve(Resolve::BENEATH);
+/// assert_eq!(HOW.flags, Flags::PATH);
+/// assert_eq!(OpenHow::from(Flags::PATH).resolve(Resolve::BENEATH), HOW);
+/// assert_eq!(OpenHow::new(), OpenHow::default());
 /// ```
 #[derive(Clone, Copy, Debug, Default, PartialEq, Eq, Hash)]
+#[non_exhaustive]
 pub struct OpenHow {
+    /// What is to be found.
     pub flags: Flags,
+    /// What the walk may not do.
     pub resolve: Resolve,
 }
 
 impl OpenHow {
     /// How many bytes it has.
+    ///
+    /// ```
+    /// assert_eq!(ventolaire::OpenHow::LEN, 24);
+    /// ```
     pub const LEN: usize = 24;
 
+    /// One with no flag and no restriction.
+    ///
+    /// ```
+    /// assert!(ventolaire::OpenHow::new().flags.is_empty());
+    /// ```
+    pub const fn new() -> Self {
+        OpenHow { flags: Flags::empty(), resolve: Resolve::empty() }
+    }
+
+    /// With these flags in place of those before.
+    ///
+    /// ```
+    /// use ventolaire::{Flags, OpenHow};
+    ///
+    /// assert_eq!(OpenHow::new().flags(Flags::DIRECTORY), Flags::DIRECTORY.into());
+    /// ```
+    #[must_use]
+    pub const fn flags(self, flags: Flags) -> Self {
+        OpenHow { flags, ..self }
+    }
+
+    /// With these restrictions in place of those before.
+    ///
+    /// ```
+    /// use ventolaire::{OpenHow, Resolve};
+    ///
+    /// assert_eq!(OpenHow::new().resolve(Resolve::IN_ROOT), Resolve::IN_ROOT.into());
+    /// ```
+    #[must_use]
+    pub const fn resolve(self, resolve: Resolve) -> Self {
+        OpenHow { resolve, ..self }
+    }
+
     /// Its bytes: flags, mode with padding and resolve, each little-endian.
-    pub fn to_bytes(self) -> [u8; OpenHow::LEN] {
+    ///
+    /// ```
+    /// use ventolaire::{OpenHow, Resolve};
+    ///
+    /// let mut bytes = [0; OpenHow::LEN];
+    /// bytes[16] = 8;
+    /// assert_eq!(OpenHow::from(Resolve::BENEATH).to_bytes(), bytes);
+    /// ```
+    pub const fn to_bytes(self) -> [u8; OpenHow::LEN] {
         let mut bytes = [0; OpenHow::LEN];
-        bytes[..8].copy_from_slice(&self.flags.bits().to_le_bytes());
-        bytes[16..].copy_from_slice(&self.resolve.bits().to_le_bytes());
+        let (flags, rest) = bytes.split_at_mut(8);
+        flags.copy_from_slice(&self.flags.bits().to_le_bytes());
+        let (_mode, resolve) = rest.split_at_mut(8);
+        resolve.copy_from_slice(&self.resolve.bits().to_le_bytes());
         bytes
     }
 }
 
 impl From<Flags> for OpenHow {
     fn from(flags: Flags) -> Self {
-        OpenHow { flags, ..OpenHow::default() }
+        OpenHow::new().flags(flags)
     }
 }
 
 impl From<Resolve> for OpenHow {
     fn from(resolve: Resolve) -> Self {
-        OpenHow { resolve, ..OpenHow::default() }
+        OpenHow::new().resolve(resolve)
     }
 }

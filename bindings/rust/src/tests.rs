@@ -1,3 +1,10 @@
+//! Calls and their answers.
+
+mod errors;
+mod paths;
+mod sets;
+mod tables;
+
 use crate::bench_tree::{IMAGE, TABLE};
 use crate::*;
 
@@ -5,9 +12,10 @@ const LAB: Handle = Handle::new(0, 1);
 
 #[test]
 fn the_bench_tree_answers_as_its_table_says() {
-    assert_eq!(check(IMAGE), Ok(()));
+    let table = Table::new(IMAGE).unwrap();
     for row in TABLE {
         assert_eq!(resolve(IMAGE, row.handle, row.path, row.how), row.answer, "{row:?}");
+        assert_eq!(table.resolve(row.handle, row.path, row.how), row.answer, "{row:?}");
     }
 }
 
@@ -15,9 +23,10 @@ fn the_bench_tree_answers_as_its_table_says() {
 fn the_smallest_image_is_accepted() {
     let mut image = b"TOC1\x01\0\x01\0\0\0\0\0\0\0\0\0\x28\0\0\0\x01\0".to_vec();
     image.resize(40, 0);
-    assert_eq!(check(&image), Ok(()));
-    let found = resolve(&image, Handle::new(0, 0), "/..", OpenHow::default());
+    let table = Table::new(&image).unwrap();
+    let found = table.resolve(table.root(), "/..", OpenHow::new());
     assert_eq!(found.map(|found| found.place), Ok(Place { mount: 0, node: 0 }));
+    assert_eq!((table.nodes().len(), table.mounts().len(), table.entries().len()), (1, 1, 0));
 }
 
 #[test]
@@ -45,7 +54,7 @@ fn refused_tables_say_where() {
         check(&[0; 65_537]).unwrap_err().to_string(),
         "rule 1 broken: the image is not 20 to 65,536 bytes long"
     );
-    let refusal = resolve(b"", LAB, "cal", OpenHow::default()).unwrap_err();
+    let refusal = resolve(b"", LAB, "cal", OpenHow::new()).unwrap_err();
     assert_eq!(refusal.to_string(), "EUCLEAN (117); 0 components, 0 links");
 }
 
@@ -53,7 +62,7 @@ fn refused_tables_say_where() {
 fn unknown_bits_are_named() {
     let refusal = |how: OpenHow| resolve(IMAGE, LAB, "cal", how).unwrap_err();
     for bit in 0..64 {
-        let flags = Flags::from_bits(1 << bit | 1 << 63);
+        let flags = Flags::from_bits_retain(1 << bit | 1 << 63);
         if !Flags::NAMED.iter().any(|(_, named)| flags.contains(*named)) {
             let refusal = refusal(flags.into());
             assert_eq!(refusal.errno, Errno::EINVAL);
@@ -61,10 +70,10 @@ fn unknown_bits_are_named() {
         }
     }
     for bit in 5..64 {
-        let refusal = refusal(Resolve::from_bits(1 << bit | 1 << 63 | 1).into());
+        let refusal = refusal(Resolve::from_bits_retain(1 << bit | 1 << 63 | 1).into());
         assert_eq!(refusal.unknown_bit(), Some(UnknownBit::Resolve(bit)));
     }
-    let refusal = refusal(Resolve::from_bits(1 << 5).into());
+    let refusal = refusal(Resolve::from_bits_retain(1 << 5).into());
     let text = "EINVAL (22), unknown resolve bit 5; 0 components, 0 links";
     assert_eq!(refusal.to_string(), text);
 }
@@ -92,7 +101,7 @@ fn raw_open_hows_may_have_any_length() {
 #[test]
 fn bad_handles_and_paths_are_refused() {
     let errno = |handle: Handle, path: &[u8]| {
-        resolve(IMAGE, handle, path, OpenHow::default()).err().map(|refusal| refusal.errno)
+        resolve(IMAGE, handle, path, OpenHow::new()).err().map(|refusal| refusal.errno)
     };
     for (handle, expected) in [
         (Handle::new(1, 8), None),
@@ -119,22 +128,14 @@ fn bad_handles_and_paths_are_refused() {
 }
 
 #[test]
-fn names_and_sets_go_together() {
-    for &(name, flag) in Flags::NAMED {
-        assert_eq!(Flags::from_name(name), Some(flag));
-        assert_eq!(flag.to_string(), name);
-    }
-    assert_eq!(Resolve::from_name("BENEATH"), Some(Resolve::BENEATH));
-    assert_eq!(Resolve::from_name("RESOLVE_BENEATH"), Some(Resolve::BENEATH));
-    assert_eq!(Resolve::from_name("O_BELOW"), None);
-    assert_eq!(Flags::from_name(""), None);
-    assert_eq!(Flags::empty().to_string(), "0");
-    assert_eq!(Errno::from_number(1).to_string(), "unknown errno (1)");
-    assert_eq!(
-        OpenHow { flags: Flags::PATH | Flags::CLOEXEC, resolve: Resolve::from_bits(u64::MAX) }
-            .to_bytes(),
-        [0, 0, 0x28, 0, 0, 0, 0, 0, 0, 0, 0, 0, 0, 0, 0, 0, 255, 255, 255, 255, 255, 255, 255, 255]
-    );
+fn the_header_has_this_version() {
+    let header = include_str!("../../../include/ventolaire.h");
+    let defined = |name: &str| {
+        let define = format!("#define VENTOLAIRE_VERSION_{name} ");
+        header.lines().find_map(|line| line.strip_prefix(&define)).unwrap()
+    };
+    let version = ["MAJOR", "MINOR", "PATCH"].map(defined).join(".");
+    assert_eq!(version, env!("CARGO_PKG_VERSION"));
 }
 
 /// Whatever the bytes are, there is an answer.
@@ -157,7 +158,16 @@ fn any_input_is_answered() {
         let how: Vec<u8> = (0..random(40)).map(|_| (random(2) * random(32)) as u8).collect();
         let handle = Handle { mount: random(3) as u64, node: random(13) as u64, mark: false };
         let accepted = check(&image).is_ok();
-        match resolve_raw(&image, handle, &path, &how) {
+        let path = path.as_slice();
+        let answer = resolve_raw(&image, handle, path, &how);
+        match Table::new(&image) {
+            Ok(table) => {
+                assert_eq!(table.resolve_raw(handle, path, &how), answer);
+                assert!(!format!("{:?} {:?}", table.nodes(), table.mounts()).is_empty());
+            }
+            Err(broken) => assert_eq!(Err(broken.into()), answer),
+        }
+        match answer {
             Ok(found) => assert!(accepted && found.components <= 83_968 && found.links <= 40),
             Err(refusal) => {
                 assert_eq!(refusal.errno == Errno::EUCLEAN, !accepted);

@@ -291,8 +291,12 @@ fn crowded(dice: &mut Dice) -> Draft {
         let body = dice.choose(&bodies).cloned().unwrap_or_default();
         draft.link(&body);
     }
-    draft.before = (0..dice.from(1, 90)).map(|_| dice.pick(b"\0/.ab")).collect();
-    draft.after = (0..dice.from(1, 90)).map(|_| dice.pick(b"\0/.ab")).collect();
+    draft.before = (0..dice.from(1, 90))
+        .map(|_| dice.pick(b"\0/.ab"))
+        .collect();
+    draft.after = (0..dice.from(1, 90))
+        .map(|_| dice.pick(b"\0/.ab"))
+        .collect();
     draft
 }
 

@@ -29,6 +29,8 @@
 //! Without it, it compares with the second shape of the resolver in `faulty`,
 //! where `--fault NAME` plants one of its faults.
 
+#[cfg(all(test, feature = "subject"))]
+mod binding;
 mod case;
 #[cfg(feature = "subject")]
 #[path = "../../../bindings/rust/src/declared.rs"]
@@ -466,7 +468,10 @@ fn faults(arguments: &Arguments) -> Result<bool, String> {
     let alike = |numbered: Numbered| numbered.case.compare(&mut subject).is_ok();
     let none = Cases::new(seed, TABLES / 10, CALLS / 10).all(alike);
     println!("with no fault");
-    println!("  compared: {}", count(none.then(|| "no difference".into())));
+    println!(
+        "  compared: {}",
+        count(none.then(|| "no difference".into()))
+    );
     println!("{passed} passed, {failed} failed");
     Ok(failed == 0)
 }

@@ -48,6 +48,8 @@ pub use linked::Linked;
 mod linked {
     use super::{Handle, Lent, Subject};
     use crate::declared::{ventolaire_check, ventolaire_resolve};
+    // It is this crate that has the library linked.
+    use ventolaire as _;
 
     /// What stands in the output before a call, and must still stand behind
     /// the numbers written after it.
