@@ -87,7 +87,7 @@ static inline void ventolaire_how(uint8_t how[VENTOLAIRE_HOW_SIZE],
 #define VENTOLAIRE_ENOENT 2        /* empty path, no such name, or mark broken */
 #define VENTOLAIRE_E2BIG 7         /* open_how too long, or something behind it */
 #define VENTOLAIRE_EBADF 9         /* not a place that a handle can have */
-#define VENTOLAIRE_EXDEV 18        /* leaves the mount or the handle */
+#define VENTOLAIRE_EXDEV 18        /* leaves mount or handle; magic link in IN_ROOT */
 #define VENTOLAIRE_ENOTDIR 20      /* not a directory where one is needed */
 #define VENTOLAIRE_EINVAL 22       /* open_how not valid, or zero byte in the path */
 #define VENTOLAIRE_ENAMETOOLONG 36 /* path over 4,095 bytes, or name over 255 */
