@@ -24,17 +24,23 @@ pub contains-end : (b : ℕ) (s : List ℕ) (i : ℕ) → length s ≤ i → con
 unfolding contains
 contains-end b s i h = rw (drop-of-length-le s h)
 
--- what is known of the bytes before a position, and of the one at it
-pub seen-hit : (b : ℕ) (s : List ℕ) (i : ℕ) (found : Bool) → i < length s → contains b s ≡ found || contains b (drop i s) → getD s i 0 ≡ b
-    → contains b s ≡ true
-seen-hit b s i found h seen e = seen ∙ rw (contains-next b s i h, eq-eqb (getD s i 0) b e) (or-true found)
+-- A loop that looks for a byte stands at i: the byte was found, or stands in the string if it does from i on.
+pub record Seen (b : ℕ) (s : List ℕ) (found : Bool) (i : ℕ) : Type 0 where
+  pub from-here : contains b s ≡ found || contains b (drop i s)
 
-pub seen-miss : (b : ℕ) (s : List ℕ) (i : ℕ) (found : Bool) → i < length s → contains b s ≡ found || contains b (drop i s) → (getD s i 0 ≡ b → ⊥)
-    → contains b s ≡ found || contains b (drop (i + 1) s)
-seen-miss b s i found h seen e = seen ∙ rw (contains-next b s i h, ne-eqb (getD s i 0) b e)
+module _ {b : ℕ} {s : List ℕ} {found : Bool} {i : ℕ} (seen : Seen b s found i) where
+  pub seen-stands : i < length s → getD s i 0 ≡ b → true ≡ contains b s
+  seen-stands h e = sym (seen .from-here ∙ rw (contains-next b s i h, eq-eqb (getD s i 0) b e) (or-true found))
 
-pub seen-all : (b : ℕ) (s : List ℕ) (i : ℕ) (found : Bool) → length s ≤ i → contains b s ≡ found || contains b (drop i s) → found ≡ contains b s
-seen-all b s i found h seen = sym (seen ∙ rw (contains-end b s i h) (or-false found))
+  -- the flag after the byte at i
+  pub seen-hit : {after : Bool} → i < length s → getD s i 0 ≡ b → after ≡ true → Seen b s after (i + 1)
+  seen-hit h e f = record { from-here = rw f (sym (seen-stands h e)) }
+
+  pub seen-miss : {after : Bool} → i < length s → (getD s i 0 ≡ b → ⊥) → after ≡ found → Seen b s after (i + 1)
+  seen-miss h e f = record { from-here = rw f (seen .from-here ∙ rw (contains-next b s i h, ne-eqb (getD s i 0) b e)) }
+
+  pub seen-all : length s ≤ i → found ≡ contains b s
+  seen-all h = sym (seen .from-here ∙ rw (contains-end b s i h) (or-false found))
 
 -- strings of different lengths differ
 pub differing : (s t : List ℕ) → (length s ≡ length t → ⊥) → sameBytes s t ≡ false

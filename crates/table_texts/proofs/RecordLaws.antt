@@ -12,8 +12,8 @@ use Rattle.model.specs.Bytes.{part, contains, find}
 use Rattle.model.specs.TableCheck.{sumBelow}
 use Rattle.parts.specs.Searches.{foundOr}
 use Rattle.parts.proofs.FoundLaws.{found, FirstFrom}
-use Rattle.strings.proofs.PartLaws.{neither, not-in-part}
-use Rattle.laws.proofs.Cases.{below-or, both}
+use Rattle.strings.proofs.PartLaws.{not-in-part}
+use Rattle.laws.proofs.Cases.{below-or, both, neither}
 use Rattle.text_marks.specs.Barred.{holdsBarred}
 use Rattle.table_texts.specs.Barred.{recordSize, partStart, partLength, recordBarred, firstBarred, fewRecords, sureRecords, seenClean, longerThan, isMarked}
 
