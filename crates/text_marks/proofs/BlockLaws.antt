@@ -1,17 +1,19 @@
 -- Laws of a block's marks: what more bytes add to them, how large they are, and what they are of bytes that do not stand in the block.
 -- Assumes nothing.
 use Prim.Native.Nat.{ℕ, zero, suc, _+_, _-_, _*_, _^_, _≤_, _<_}
-use mathlib.Core.Bool.{Bool, true, false, cond, _||_, or-true, or-false, true≢false}
+use mathlib.Core.Bool.{Bool, true, false, cond, _||_, or-false}
 use mathlib.Core.List.{List}
 use mathlib.Core.Path.{_≡_, refl, sym, ap₂, _∙_}
 use native.Mathlib.Nat.{zero-add, add-zero, suc-add, pow-suc}
 use native.Mathlib.Omega.{arith}
-use borrow.Author.Tests.{eq-eqb, ne-eqb, eqb-true, lt-ltb, le-ltb}
+use borrow.Author.Tests.{eqb-true, lt-ltb, le-ltb}
 use lib.Dec.{eqb}
 use lib.ListN.{length, getD}
 use lib.Pow.{pow-mono}
 use Rattle.model.specs.Bytes.{part, contains}
-use Rattle.laws.proofs.StringLaws.{next}
+use Rattle.laws.proofs.Cases.{neither}
+use Rattle.laws.proofs.PartLaws.{part-get, part-whole}
+use Rattle.laws.proofs.StringLaws.{next, Seen, seen-hit, seen-miss, seen-all}
 use Rattle.text_marks.specs.Barred.{barred}
 use Rattle.text_marks.specs.Marks.{digit, marksOf, blockEnd, blockMarks}
 
@@ -114,11 +116,6 @@ pub marks-bodies : (text : List ℕ) (at count : ℕ) → marksOf (λ x. eqb x 0
 unfolding barred
 marks-bodies = marks-ext (λ x. eqb x 0) (barred false) (λ x. sym (or-false (eqb x 0)))
 
--- of a disjunction that fails, both parts do
-neither : (a b : Bool) → (a || b) ≡ false → (a ≡ false) × (b ≡ false)
-neither false b e = (refl, e)
-neither true b e = absurd (true≢false e)
-
 module _ (byte : ℕ) (text : List ℕ) where
   -- whether a byte stands in a part, by the part's first one
   contains-first : (at count : ℕ) → at < length text
@@ -135,32 +132,16 @@ module _ (byte : ℕ) (text : List ℕ) where
       let n = neither (eqb (getD text at 0) byte) (contains byte (part text (at + 1) count)) (sym (contains-first at count (omega arith)) ∙ e) in
       rw (n .0, marks-none (at + 1) count (omega arith) (n .1))
 
-  -- what is known of a block's bytes before one of them, and of that one
-  module _ (at width i : ℕ) (found : Bool) (inside : at + width ≤ length text)
-      (seen : contains byte (part text at width) ≡ found || contains byte (part text (at + i) (width - i))) where
-    -- its first byte and the later ones
-    block-next : i < width → contains byte (part text (at + i) (width - i))
-        ≡ eqb (getD text (at + i) 0) byte || contains byte (part text (at + (i + 1)) (width - (i + 1)))
-    block-next l =
-        let n : width - i ≡ suc (width - (i + 1)) = omega arith in
-        let m : at + (i + 1) ≡ at + i + 1 = omega arith in
-        rw (n, m) (contains-first (at + i) (width - (i + 1)) (omega arith))
+  -- a loop looks for it in a part, and stands at i
+  module _ (at width : ℕ) (inside : at + width ≤ length text) {found : Bool} {i : ℕ} (seen : Seen byte (part text at width) found i) where
+    pub block-hit : {after : Bool} → i < width → getD text (at + i) 0 ≡ byte → after ≡ true → Seen byte (part text at width) after (i + 1)
+    block-hit h e = seen-hit seen (omega (arith, part-whole text at width inside)) (part-get text at width i h ∙ e)
 
-    -- the byte is found
-    pub block-hit : i < width → getD text (at + i) 0 ≡ byte → contains byte (part text at width) ≡ true
-    block-hit l e = seen ∙ rw (block-next l, eq-eqb (getD text (at + i) 0) byte e) (or-true found)
+    pub block-miss : {after : Bool} → i < width → (getD text (at + i) 0 ≡ byte → ⊥) → after ≡ found → Seen byte (part text at width) after (i + 1)
+    block-miss h e = seen-miss seen (omega (arith, part-whole text at width inside)) (λ f. e (sym (part-get text at width i h) ∙ f))
 
-    -- it is another one
-    pub block-miss : i < width → (getD text (at + i) 0 ≡ byte → ⊥)
-        → contains byte (part text at width) ≡ found || contains byte (part text (at + (i + 1)) (width - (i + 1)))
-    block-miss l e = seen ∙ rw (block-next l, ne-eqb (getD text (at + i) 0) byte e)
-
-    -- no byte is left
     pub block-all : width ≤ i → found ≡ contains byte (part text at width)
-    unfolding part contains
-    block-all l =
-        let n : width - i ≡ 0 = omega arith in
-        sym (seen ∙ rw n (or-false found))
+    block-all h = seen-all seen (omega (arith, part-whole text at width inside))
 
 -- the last block ends with the text
 pub ends-short : (text : List ℕ) (at : ℕ) → length text < at + 64 → blockEnd text at ≡ length text
