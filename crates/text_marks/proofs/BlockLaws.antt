@@ -1,6 +1,6 @@
 -- Laws of a block's marks: what more bytes add to them, how large they are, and what they are of bytes that do not stand in the block.
 -- Assumes nothing.
-use Prim.Native.Nat.{ℕ, zero, suc, _+_, _-_, _*_, _^_, _≤_, _<_}
+use Prim.Native.Nat.{ℕ, zero, suc, _+_, _-_, _*_, _/_, _^_, _≤_, _<_}
 use mathlib.Core.Bool.{Bool, true, false, cond, _||_, or-false}
 use mathlib.Core.List.{List}
 use mathlib.Core.Path.{_≡_, refl, sym, ap₂, _∙_}
@@ -10,6 +10,8 @@ use borrow.Author.Tests.{eqb-true, lt-ltb, le-ltb}
 use lib.Dec.{eqb}
 use lib.ListN.{length, getD}
 use lib.Pow.{pow-mono}
+use mir.Syntax.{w64}
+use mir.Val.{Fits}
 use Rattle.model.specs.Bytes.{part, contains}
 use Rattle.laws.proofs.Cases.{neither}
 use Rattle.laws.proofs.PartLaws.{part-get, part-whole}
@@ -44,14 +46,6 @@ module _ (test : ℕ → Bool) (text : List ℕ) where
   marks-bound at (suc count) =
       rw (pow-suc 2 count) (omega (arith, digit-le (test (getD text at 0)), marks-bound (at + 1) count))
 
-  -- there is room for eight marks more
-  pub room-eight : (at count : ℕ) → count ≤ 56 → 256 * marksOf test text at count + 255 < 2 ^ 64
-  room-eight at count h = omega (arith, marks-bound at count, pow-mono {i = count} {j = 56} h)
-
-  -- and for one more
-  pub room-one : (at count : ℕ) → count ≤ 63 → 2 * marksOf test text at count + 1 < 2 ^ 64
-  room-one at count h = omega (arith, marks-bound at count, pow-mono {i = count} {j = 63} h)
-
   -- eight bytes, each with its weight
   pub eight-weights : (at : ℕ)
       → cond (test (getD text at 0)) 1 0 + cond (test (getD text (at + 1) 0)) 2 0 + cond (test (getD text (at + 2) 0)) 4 0
@@ -65,27 +59,77 @@ module _ (test : ℕ → Bool) (text : List ℕ) where
       let a : (i : ℕ) → at + i + 1 ≡ at + suc i = λ i. omega arith in
       rw (a 1, a 2, a 3, a 4, a 5, a 6) (omega (arith, w 1 2, w 2 4, w 3 8, w 4 16, w 5 32, w 6 64, w 7 128))
 
-  -- eight bytes more, before those that are marked
-  pub eight-more : (at i : ℕ) {marks eight : ℕ} → 8 ≤ i → i ≤ 64 → marks ≡ marksOf test text (at + i) (64 - i)
-      → eight ≡ marksOf test text (at + (i - 8)) 8 → 256 * marks + eight ≡ marksOf test text (at + (i - 8)) (64 - (i - 8))
-  eight-more at i l u e f =
-      let n : 64 - (i - 8) ≡ 8 + (64 - i) = omega arith in
-      let m : at + (i - 8) + 8 ≡ at + i = omega arith in
-      rw (n, marks-split 8 (64 - i) (at + (i - 8)), m) (omega arith)
+-- A loop marks a whole block from its end on, eight bytes at a time, and stands at its byte i.
+pub record EightsFrom (test : ℕ → Bool) (text : List ℕ) (at i marks : ℕ) : Type 0 where
+  pub within : i ≤ 64
+  pub eights : i ≡ 8 * (i / 8)
+  pub are : marks ≡ marksOf test text (at + i) (64 - i)
 
-  -- one byte more, before those that are marked
-  pub one-more : (i : ℕ) {marks : ℕ} → 0 < i → i ≤ length text → marks ≡ marksOf test text i (length text - i)
-      → 2 * marks + digit (test (getD text (i - 1) 0)) ≡ marksOf test text (i - 1) (length text - (i - 1))
+module _ {test : ℕ → Bool} {text : List ℕ} {at i marks : ℕ} (marked : EightsFrom test text at i marks) where
+  -- there is room for eight marks more
+  room-eight : 0 < i → 256 * marks + 255 < 2 ^ 64
+  room-eight l =
+      let few : 64 - i ≤ 56 = omega (arith, marked .eights) in
+      omega (arith, marked .are, marks-bound test text (at + i) (64 - i), pow-mono {i = 64 - i} {j = 56} few)
+
+  pub eight-mul : 0 < i → Fits w64 (256 * marks)
+  eight-mul l = omega (arith, room-eight l)
+
+  pub eight-add : {eight : ℕ} → 0 < i → eight < 256 → Fits w64 (256 * marks + eight)
+  eight-add l h = omega (arith, room-eight l)
+
+  pub eight-more : {eight : ℕ} → 0 < i → eight ≡ marksOf test text (at + (i - 8)) 8 → EightsFrom test text at (i - 8) (256 * marks + eight)
+  eight-more l e =
+      let n : 64 - (i - 8) ≡ 8 + (64 - i) = omega (arith, marked .within, marked .eights) in
+      let m : at + (i - 8) + 8 ≡ at + i = omega (arith, marked .eights) in
+      record {
+        within = omega (arith, marked .within);
+        eights = omega (arith, marked .eights);
+        are = rw (n, marks-split test text 8 (64 - i) (at + (i - 8)), m) (omega (arith, marked .are));
+      }
+
+  pub eight-all : i ≤ 0 → marks ≡ marksOf test text at 64
+  eight-all l = let e : i ≡ 0 = omega arith in marked .are ∙ rw (e, add-zero at)
+
+-- A loop marks a text from its end on, byte by byte, and stands at i.
+pub record MarksFrom (test : ℕ → Bool) (text : List ℕ) (i marks : ℕ) : Type 0 where
+  pub within : i ≤ length text
+  pub are : marks ≡ marksOf test text i (length text - i)
+
+-- no bytes, no marks
+pub marks-start : (test : ℕ → Bool) (text : List ℕ) → MarksFrom test text (length text) 0
+unfolding marksOf
+marks-start test text = let n : length text - length text ≡ 0 = omega arith in record { within = omega arith; are = rw n }
+
+module _ {test : ℕ → Bool} {text : List ℕ} {i marks : ℕ} (marked : MarksFrom test text i marks) where
+  -- there is room for one more, in a last block that starts at a position before
+  room-one : (at : ℕ) → length text < at + 64 → at < i → 2 * marks + 1 < 2 ^ 64
+  room-one at h l =
+      let few : length text - i ≤ 63 = omega arith in
+      omega (arith, marked .are, marks-bound test text i (length text - i), pow-mono {i = length text - i} {j = 63} few)
+
+  pub one-mul : (at : ℕ) → length text < at + 64 → at < i → Fits w64 (2 * marks)
+  one-mul at h l = omega (arith, room-one at h l)
+
+  pub one-add : (at : ℕ) → length text < at + 64 → at < i → Fits w64 (2 * marks + 1)
+  one-add at h l = omega (arith, room-one at h l)
+
+  -- the byte before, by what it was told to be
+  one-more : {told : Bool} → 0 < i → told ≡ test (getD text (i - 1) 0) → MarksFrom test text (i - 1) (2 * marks + digit told)
   unfolding marksOf
-  one-more i l u e =
-      let n : length text - (i - 1) ≡ suc (length text - i) = omega arith in
+  one-more l e =
+      let n : length text - (i - 1) ≡ suc (length text - i) = omega (arith, marked .within) in
       let m : i - 1 + 1 ≡ i = omega arith in
-      rw (n, m) (omega arith)
+      record { within = omega (arith, marked .within); are = rw (e, n, m) (omega (arith, marked .are)) }
 
-  -- no bytes, no marks
-  pub none-left : 0 ≡ marksOf test text (length text) (length text - length text)
-  unfolding marksOf
-  none-left = let n : length text - length text ≡ 0 = omega arith in rw n
+  pub one-set : {told : Bool} {at : ℕ} → at < i → told ≡ test (getD text (i - 1) 0) → told ≡ true → MarksFrom test text (i - 1) (2 * marks + 1)
+  one-set l e f = rw f at (one-more (omega arith) e)
+
+  pub one-clear : {told : Bool} {at : ℕ} → at < i → told ≡ test (getD text (i - 1) 0) → told ≡ false → MarksFrom test text (i - 1) (2 * marks)
+  one-clear l e f = let z : 2 * marks + 0 ≡ 2 * marks = omega arith in rw (f, z) at (one-more (omega arith) e)
+
+  pub one-all : (at : ℕ) → at ≤ i → i ≤ at → marks ≡ marksOf test text at (length text - at)
+  one-all at l u = let e : i ≡ at = omega arith in marked .are ∙ rw e
 
 -- marks that are added
 marks-sum : (p q r : ℕ → Bool) → ((x : ℕ) → digit (p x) + digit (q x) ≡ digit (r x)) → (text : List ℕ) (at count : ℕ)
