@@ -1,12 +1,12 @@
 -- Laws of barred bytes: of a string that holds one, of the first from a position on, and of what a block's marks tell of it. Assumes nothing.
 use Prim.Native.Nat.{ℕ, zero, suc, _+_, _-_, _*_, _/_, _%_, _^_, _≤_, _<_}
-use mathlib.Core.Bool.{Bool, true, false, cond, _&&_, _||_, or-true, true≢false}
+use mathlib.Core.Bool.{Bool, true, false, cond, not, _&&_, _||_, or-true, or-false, true≢false}
 use mathlib.Core.List.{List, [], _∷_}
 use mathlib.Core.Logic.{⊎-elim}
 use mathlib.Core.Path.{_≡_, refl, sym, ap, ap₂, _∙_, subst}
 use native.Mathlib.Nat.{div-one, eq-or-lt-of-le, pow-zero, zero-add}
 use native.Mathlib.Omega.{arith}
-use borrow.Author.Tests.{eqb-true, eqb-false, lt-ltb, le-ltb, ltb-true, ltb-false}
+use borrow.Author.Tests.{eqb-true, eqb-false, lt-ltb, le-ltb, ltb-true, ltb-false, not-true, not-false}
 use lib.Count.{trailingZeros, under}
 use lib.Dec.{eqb, ltb}
 use lib.ListN.{length, getD, take, drop, set, length-drop}
@@ -59,6 +59,15 @@ module _ (names : Bool) (s : List ℕ) (i : ℕ) (seen : holdsBarred names s ≡
   pub barred-none : length s ≤ i → false ≡ holdsBarred names s
   unfolding holdsBarred
   barred-none h = sym (seen ∙ ap₂ (λ (a b : Bool). a || (names && b)) (contains-end 0 s i h) (contains-end 47 s i h) ∙ neither names)
+
+-- whether it holds one, by the kind of record
+module _ (names : Bool) (s : List ℕ) {held : Bool} where
+  pub of-bodies : not names ≡ true → held ≡ contains 0 s → held ≡ holdsBarred names s
+  unfolding holdsBarred
+  of-bodies n e = e ∙ sym (rw (not-true _ n) (or-false _))
+
+  pub of-names : not names ≡ false → held ≡ holdsBarred true s → held ≡ holdsBarred names s
+  of-names n e = rw (not-false _ n) e
 
 take-hit : (names : Bool) (s : List ℕ) (n i : ℕ) → i < n → i < length s → barred names (getD s i 0) ≡ true → holdsBarred names (take n s) ≡ true
 take-hit names [] n i h l e = absurd (omega arith)
