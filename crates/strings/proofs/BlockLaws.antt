@@ -11,18 +11,24 @@ use borrow.Author.Tests.{eq-eqb, ne-eqb, le-ltb, lt-ltb, eqb-true, eqb-false, lt
 use lib.Dec.{eqb, ltb}
 use lib.ListN.{length, getD, drop}
 use lib.Seq.{ext-getD}
+use mir.Syntax.{w8}
+use mir.Val.{Fits}
 use Rattle.model.specs.Bytes.{field, sameBytes, before}
 use Rattle.laws.proofs.ByteLaws.{field-ext, field-same, field-split}
 use Rattle.laws.proofs.Cases.{below-or, cond-cases}
 use Rattle.laws.proofs.StringLaws.{same-equal, equal-same, before-next, before-short, before-ended}
 use Rattle.strings.specs.Blocks.{bigEndian, SameTo, Deciding, differ, firstDiffering}
 
-abbrev pub Bytes : List ℕ → Type 0
-Bytes s = (i : ℕ) → getD s i 0 < 256
-
 -- the same bytes in a block
 abbrev Alike : List ℕ → List ℕ → ℕ → ℕ → Type 0
 Alike s t at width = (i : ℕ) → at ≤ i → i < at + width → getD s i 0 ≡ getD t i 0
+
+-- what the code has of each slice of bytes
+abbrev pub Bytes : List ℕ → Type 0
+Bytes s = (i : ℕ) → Fits w8 (getD s i 0)
+
+bytes-same : (width : ℕ) (s t : List ℕ) (at : ℕ) → Bytes s → Bytes t → field width s at ≡ field width t at → Alike s t at width
+bytes-same width s t at hs ht = field-same width s t at (λ i. hs i .fits) (λ i. ht i .fits)
 
 -- a number is its high bytes above its low bytes
 pub big-split : (high low : ℕ) (s : List ℕ) (at : ℕ)
@@ -171,7 +177,7 @@ module _ (width : ℕ) (s t : List ℕ) (at : ℕ) (known : SameTo s t at) where
   decides-here l e = record { within = l; alike = known; differs = λ h. block-other width s t at e }
 
   pub decides-later : Bytes s → Bytes t → differ width s t at ≡ false → SameTo s t (at + width)
-  decides-later hs ht e = further s t at width known (field-same width s t at hs ht (block-same width s t at e))
+  decides-later hs ht e = further s t at width known (bytes-same width s t at hs ht (block-same width s t at e))
 
   pub decides-last : {last : ℕ} → last ≤ at → Deciding width s t last last
   decides-last {last} l = record { within = omega arith; alike = not-further s t at last known l; differs = λ h f. omega arith }
@@ -218,7 +224,7 @@ module _ (s t : List ℕ) (hs : Bytes s) (ht : Bytes t) where
   pub differ-inside : (width inner at far : ℕ) → at ≤ far → far + inner ≤ at + width → differ inner s t far ≡ true → differ width s t at ≡ true
   differ-inside width inner at far l u e =
       loads-differ width s t at refl refl
-      (λ q. block-other inner s t far e (field-ext inner s t far (λ i k h. field-same width s t at hs ht q i (omega arith) (omega arith))))
+      (λ q. block-other inner s t far e (field-ext inner s t far (λ i k h. bytes-same width s t at hs ht q i (omega arith) (omega arith))))
 
   -- and where its lower part is the same, as its upper part does
   pub differ-later : (low high at next : ℕ) → at + low ≡ next → differ low s t at ≡ false → differ (low + high) s t at ≡ differ high s t next
@@ -259,7 +265,7 @@ module _ (s t : List ℕ) (hs : Bytes s) (ht : Bytes t) where
       (λ e. first-decides width more (omega arith) (upper-part width high wide hs ht refl e))
 
 -- the deciding block decides
-module _ (width : ℕ) (s t : List ℕ) (hs : Bytes s) (ht : Bytes t) (last at : ℕ) (block : Deciding width s t last at) where
+module _ {width : ℕ} {s t : List ℕ} {last at : ℕ} (block : Deciding width s t last at) (hs : Bytes s) (ht : Bytes t) where
   to-the-last : Alike s t at width → SameTo s t (last + width)
   to-the-last h =
       ⊎-elim
@@ -267,23 +273,23 @@ module _ (width : ℕ) (s t : List ℕ) (hs : Bytes s) (ht : Bytes t) (last at :
       (λ (q : at < last). absurd (block .differs q (field-ext width s t at h)))
       (eq-or-lt-of-le (block .within))
 
-  pub deciding-same : (x y : ℕ) → x ≡ field width s at → y ≡ field width t at → last + width ≡ length s → length s ≡ length t
+  pub deciding-same : {x y : ℕ} → x ≡ field width s at → y ≡ field width t at → last + width ≡ length s → length s ≡ length t
       → eqb x y ≡ sameBytes s t
-  deciding-same x y ex ey ls e = by (eqb x y) refl
+  deciding-same {x} {y} ex ey ls e = by (eqb x y) refl
     where
       by : (b : Bool) → eqb x y ≡ b → b ≡ sameBytes s t
       by true f =
-          let known = to-the-last (field-same width s t at hs ht (sym ex ∙ eqb-true x y f ∙ ey)) in
+          let known = to-the-last (bytes-same width s t at hs ht (sym ex ∙ eqb-true x y f ∙ ey)) in
           sym (same-all s t e (subst (λ (k : ℕ). SameTo s t k) ls known))
       by false f = sym (same-not width s t at (λ q. eqb-false x y f (ex ∙ q ∙ sym ey)))
 
-  pub deciding-before : (x y : ℕ) → x ≡ bigEndian width s at → y ≡ bigEndian width t at → last + width ≤ length s → last + width ≤ length t
+  pub deciding-before : {x y : ℕ} → x ≡ bigEndian width s at → y ≡ bigEndian width t at → last + width ≤ length s → last + width ≤ length t
       → (x ≡ y → ⊥) → ltb x y ≡ before s t
-  deciding-before x y ex ey ls lt other =
+  deciding-before ex ey ls lt other =
       ap₂ ltb ex ey
       ∙ sym (before-big width s t hs ht at (block .alike) (omega (arith, block .within)) (omega (arith, block .within)) (λ q. other (ex ∙ q ∙ sym ey)))
 
-  pub deciding-begun : (x y : ℕ) → x ≡ bigEndian width s at → y ≡ bigEndian width t at → last + width ≤ length s → last + width ≤ length t
+  pub deciding-begun : {x y : ℕ} → x ≡ bigEndian width s at → y ≡ bigEndian width t at → last + width ≤ length s → last + width ≤ length t
       → (last + width < length s → length t ≡ last + width) → x ≡ y → ltb (length s) (length t) ≡ before s t
-  deciding-begun x y ex ey ls lt end e =
+  deciding-begun ex ey ls lt end e =
       sym (before-begun s t (last + width) (to-the-last (big-same s t hs ht width at (sym ex ∙ e ∙ ey))) ls lt end)

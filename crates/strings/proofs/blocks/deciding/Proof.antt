@@ -22,8 +22,8 @@ returns-3 c =
     let a = now (args .a) in
     let b = now (args .b) in
     upper-part 4 4 (long .ensures)
-    (λ k. omega (arith, c .before .before .before .before .before .before .shared-slice-known .given k))
-    (λ k. omega (arith, c .before .before .before .before .before .shared-slice-known2 .given k))
+    (c .before .before .before .before .before .before .shared-slice-known .given)
+    (c .before .before .before .before .before .shared-slice-known2 .given)
     (omega arith)
     (loads-same 4 a b (long .result) (c .before .before .u32-at .ensures .0) (c .before .u32-at2 .ensures .0) (c .if2 .left))
 

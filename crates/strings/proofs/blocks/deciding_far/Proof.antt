@@ -11,8 +11,8 @@ returns c =
     let args = c .before .before .before .before .args in
     rw (c .eight-within .ensures)
     (first-decides (now (args .a)) (now (args .b))
-    (λ k. omega (arith, c .before .before .before .shared-slice-known .given k))
-    (λ k. omega (arith, c .before .before .shared-slice-known2 .given k))
+    (c .before .before .before .shared-slice-known .given)
+    (c .before .before .shared-slice-known2 .given)
     8 3 (omega arith) (c .before .deciding-thirty-two .ensures))
 
 pub deciding-far-spec : {M : Type 1} → statement M

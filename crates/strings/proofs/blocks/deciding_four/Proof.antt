@@ -21,8 +21,8 @@ returns-2 c =
     let b = now (args .b) in
     decides-last 4 a b 4
     (decides-later 4 a b 0 (λ i h. absurd (omega arith))
-    (λ k. omega (arith, c .before .before .before .before .shared-slice-known .given k))
-    (λ k. omega (arith, c .before .before .before .shared-slice-known2 .given k))
+    (c .before .before .before .before .shared-slice-known .given)
+    (c .before .before .before .shared-slice-known2 .given)
     (loads-same 4 a b 0 (c .before .before .u32-at .ensures .0) (c .before .u32-at2 .ensures .0) (c .if1 .left)))
     (omega arith)
 

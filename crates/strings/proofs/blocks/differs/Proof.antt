@@ -29,8 +29,8 @@ loop-again c =
     let loop = c .before .before .before .before .loop in
     let a = now (args .a) in
     let b = now (args .b) in
-    let bytes-a : Bytes a = λ n. omega (arith, c .before .before .shared-slice-known .given n) in
-    let bytes-b : Bytes b = λ n. omega (arith, c .before .shared-slice-known2 .given n) in (
+    let bytes-a = c .before .before .shared-slice-known .given in
+    let bytes-b = c .before .shared-slice-known2 .given in (
       omega arith,
       omega arith,
       ⊎-elim
