@@ -203,12 +203,6 @@ empty-same : (s t : List ℕ) (at : ℕ) → differ 0 s t at ≡ false
 unfolding field
 empty-same s t at = loads-same 0 s t at refl refl refl
 
-pub seen-whole : (width : ℕ) (s t : List ℕ) (at far : ℕ) (found : Bool) → differ width s t at ≡ found || differ (at + width - far) s t far
-    → at + width ≤ far → found ≡ differ width s t at
-seen-whole width s t at far found seen l =
-    let n : at + width - far ≡ 0 = omega arith in
-    sym (seen ∙ ap (λ (v : ℕ). found || differ v s t far) n ∙ ap (λ (v : Bool). found || v) (empty-same s t far) ∙ or-false found)
-
 -- the first of the blocks side by side that differs
 module _ (width more : ℕ) (s t : List ℕ) (at : ℕ) {x y : ℕ} (ex : x ≡ field width s at) (ey : y ≡ field width t at) where
   pub first-here : (x ≡ y → ⊥) → firstDiffering width (suc more) s t at ≡ at
@@ -234,20 +228,6 @@ module _ (s t : List ℕ) (hs : Bytes s) (ht : Bytes t) where
       by true h = differ-inside (low + high) high at (at + low) (omega arith) (omega arith) h
       by false h = loads-same (low + high) s t at refl refl (parts-same low high s t at (block-same low s t at e) (block-same high s t (at + low) h))
 
-  -- byte by byte: a block differs if one of its bytes was seen to, or what is left of it does
-  pub seen-other : (width at far : ℕ) → at ≤ far → far < at + width → (getD s far 0 ≡ getD t far 0 → ⊥) → differ width s t at ≡ true
-  seen-other width at far l h other =
-      differ-inside width 1 at far l (omega arith) (loads-differ 1 s t far (byte-field s far) (byte-field t far) other)
-
-  pub seen-same : (width at far : ℕ) (found : Bool) → differ width s t at ≡ found || differ (at + width - far) s t far
-      → far < at + width → getD s far 0 ≡ getD t far 0 → differ width s t at ≡ found || differ (at + width - (far + 1)) s t (far + 1)
-  seen-same width at far found seen h e =
-      let left = at + width - (far + 1) in
-      let n : at + width - far ≡ 1 + left = omega arith in
-      seen
-      ∙ ap (λ (v : ℕ). found || differ v s t far) n
-      ∙ ap (λ (v : Bool). found || v) (differ-later 1 left far (far + 1) refl (loads-same 1 s t far (byte-field s far) (byte-field t far) e))
-
   -- of a wide block that decides between two strings, the first of its blocks that differs, or the last of them, does
   pub first-decides : (width more : ℕ) {short last at : ℕ} → short + more * width ≡ last → Deciding (width + more * width) s t short at
       → Deciding width s t last (firstDiffering width more s t at)
@@ -263,6 +243,36 @@ module _ (s t : List ℕ) (hs : Bytes s) (ht : Bytes t) where
       cond-cases (Deciding width s t last) (differ width s t at) at (firstDiffering width more s t (at + width))
       (lower-part width high wide (omega arith))
       (λ e. first-decides width more (omega arith) (upper-part width high wide hs ht refl e))
+
+-- A loop looks for a byte that differs in a block, and stands at `far`: the block differs if one was found, or what is left of it does.
+pub record SeenTo (width : ℕ) (s t : List ℕ) (at : ℕ) (found : Bool) (far : ℕ) : Type 0 where
+  pub from : at ≤ far
+  pub seen : differ width s t at ≡ found || differ (at + width - far) s t far
+
+pub seen-start : (width : ℕ) (s t : List ℕ) (at : ℕ) → SeenTo width s t at false at
+seen-start width s t at =
+    let n : width ≡ at + width - at = omega arith in
+    record { from = omega arith; seen = ap (λ (v : ℕ). differ v s t at) n }
+
+module _ {width : ℕ} {s t : List ℕ} {at : ℕ} {found : Bool} {far : ℕ} (block : SeenTo width s t at found far) where
+  pub seen-other : {after : Bool} → Bytes s → Bytes t → far < at + width → (getD s far 0 ≡ getD t far 0 → ⊥) → after ≡ true
+      → SeenTo width s t at after (far + 1)
+  seen-other hs ht h other e =
+      let one = loads-differ 1 s t far (byte-field s far) (byte-field t far) other in
+      record { from = omega (arith, block .from); seen = rw e (differ-inside s t hs ht width 1 at far (block .from) (omega arith) one) }
+
+  pub seen-same : {after : Bool} → Bytes s → Bytes t → far < at + width → getD s far 0 ≡ getD t far 0 → after ≡ found
+      → SeenTo width s t at after (far + 1)
+  seen-same hs ht h same e =
+      let left = at + width - (far + 1) in
+      let n : at + width - far ≡ 1 + left = omega arith in
+      let one = loads-same 1 s t far (byte-field s far) (byte-field t far) same in
+      record { from = omega (arith, block .from); seen = rw (e, ← differ-later s t hs ht 1 left far (far + 1) refl one, ← n) (block .seen) }
+
+  pub seen-whole : at + width ≤ far → found ≡ differ width s t at
+  seen-whole l =
+      let n : at + width - far ≡ 0 = omega arith in
+      sym (rw (n, empty-same s t far, or-false found) at (block .seen))
 
 -- the deciding block decides
 module _ {width : ℕ} {s t : List ℕ} {last at : ℕ} (block : Deciding width s t last at) (hs : Bytes s) (ht : Bytes t) where
