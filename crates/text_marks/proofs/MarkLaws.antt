@@ -64,10 +64,10 @@ module _ (names : Bool) (s : List ℕ) (i : ℕ) (seen : holdsBarred names s ≡
 module _ (names : Bool) (s : List ℕ) {held : Bool} where
   pub of-bodies : not names ≡ true → held ≡ contains 0 s → held ≡ holdsBarred names s
   unfolding holdsBarred
-  of-bodies n e = e ∙ sym (rw (not-true _ n) (or-false _))
+  of-bodies n e = e ∙ sym (rw (not-true names n) (or-false _))
 
   pub of-names : not names ≡ false → held ≡ holdsBarred true s → held ≡ holdsBarred names s
-  of-names n e = rw (not-false _ n) e
+  of-names n e = rw (not-false names n) e
 
 take-hit : (names : Bool) (s : List ℕ) (n i : ℕ) → i < n → i < length s → barred names (getD s i 0) ≡ true → holdsBarred names (take n s) ≡ true
 take-hit names [] n i h l e = absurd (omega arith)
