@@ -81,6 +81,21 @@ module _ (t : Tree) (directories : DirectoriesHold t) where
       by (Into mount node) e h = climbed-under steps node (t .mountRoot mount) (into-facts t links k mount node below e .1) h
       by Dangling e h = absurd (h refl)
 
+-- the steps left after a record, by the lead that was read
+module _ (links : Bool) (t : Tree) (k steps : ℕ) {lead : Lead} (is : lead ≡ leadBy links t k) where
+  pub steps-settled : lead ≡ Settled → steps ≡ stepsAfter t (leadBy links t k) steps
+  unfolding stepsAfter
+  steps-settled e = rw (← is, e)
+
+  pub steps-into : {mount node root left : ℕ} → lead ≡ Into mount node → root ≡ t .mountRoot mount → left ≡ climbed (t .parent) steps node root
+      → left ≡ stepsAfter t (leadBy links t k) steps
+  unfolding stepsAfter
+  steps-into {node = node} e r f = f ∙ rw (← is, e) (ap (climbed (t .parent) steps node) r)
+
+  pub steps-dangling : lead ≡ Dangling → 0 ≡ stepsAfter t (leadBy links t k) steps
+  unfolding stepsAfter
+  steps-dangling e = rw (← is, e)
+
 -- the turns of the loop over records
 module _ (links : Bool) (t : Tree) (k end steps : ℕ) where
   unseen-step : k < end → unseenFrom links t k (end - k) steps
