@@ -1,12 +1,12 @@
 -- Laws of a block's marks: what more bytes add to them, how large they are, and what they are of bytes that do not stand in the block.
 -- Assumes nothing.
 use Prim.Native.Nat.{ℕ, zero, suc, _+_, _-_, _*_, _/_, _^_, _≤_, _<_}
-use mathlib.Core.Bool.{Bool, true, false, cond, _||_, or-false}
+use mathlib.Core.Bool.{Bool, true, false, cond, not, _||_, or-false}
 use mathlib.Core.List.{List}
 use mathlib.Core.Path.{_≡_, refl, sym, ap₂, _∙_}
 use native.Mathlib.Nat.{zero-add, add-zero, suc-add, pow-suc}
 use native.Mathlib.Omega.{arith}
-use borrow.Author.Tests.{eqb-true, lt-ltb, le-ltb}
+use borrow.Author.Tests.{eqb-true, lt-ltb, le-ltb, not-true, not-false}
 use lib.Dec.{eqb}
 use lib.ListN.{length, getD}
 use lib.Pow.{pow-mono}
@@ -187,28 +187,29 @@ module _ (byte : ℕ) (text : List ℕ) where
     pub block-all : width ≤ i → found ≡ contains byte (part text at width)
     block-all h = seen-all seen (omega (arith, part-whole text at width inside))
 
--- the last block ends with the text
-pub ends-short : (text : List ℕ) (at : ℕ) → length text < at + 64 → blockEnd text at ≡ length text
-unfolding blockEnd
-ends-short text at h = rw (lt-ltb (length text) (at + 64) h)
+-- the marks of a block, by the kind of record
+module _ (names : Bool) (text : List ℕ) (at : ℕ) where
+  -- the last block ends with the text
+  pub short-block : {marks : ℕ} → length text < at + 64 → marks ≡ marksOf (barred names) text at (length text - at) → marks ≡ blockMarks names text at
+  unfolding blockEnd
+  short-block h e = e ∙ rw (lt-ltb (length text) (at + 64) h)
 
--- the others are whole
-pub ends-whole : (text : List ℕ) (at : ℕ) → at + 64 ≤ length text → blockEnd text at - at ≡ 64
-unfolding blockEnd
-ends-whole text at h = rw (le-ltb (length text) (at + 64) h) (omega arith)
+  -- the others are whole
+  module _ (h : at + 64 ≤ length text) where
+    ends-whole : blockEnd text at - at ≡ 64
+    unfolding blockEnd
+    ends-whole = rw (le-ltb (length text) (at + 64) h) (omega arith)
 
-module _ (text : List ℕ) (at : ℕ) where
-  -- a whole block of bodies: its zero bytes are marked
-  pub whole-bodies : {names : Bool} {zeros : ℕ} → at + 64 ≤ length text → names ≡ false → zeros ≡ marksOf (λ x. eqb x 0) text at 64
-      → zeros ≡ blockMarks names text at
-  whole-bodies h n e = e ∙ marks-bodies text at 64 ∙ rw (n, ends-whole text at h)
+    -- of bodies the zero bytes are marked
+    pub whole-bodies : {zeros : ℕ} → not names ≡ true → zeros ≡ marksOf (λ x. eqb x 0) text at 64 → zeros ≡ blockMarks names text at
+    whole-bodies n e = e ∙ marks-bodies text at 64 ∙ rw (not-true names n, ends-whole)
 
-  -- and one of names: its slashes too
-  pub whole-names : {names : Bool} {zeros slashes : ℕ} → at + 64 ≤ length text → names ≡ true → zeros ≡ marksOf (λ x. eqb x 0) text at 64
-      → slashes ≡ marksOf (λ x. eqb x 47) text at 64 → zeros + slashes ≡ blockMarks names text at
-  whole-names h n e f = ap₂ (λ (x y : ℕ). x + y) e f ∙ marks-names text at 64 ∙ rw (n, ends-whole text at h)
+    -- and of names the slashes too
+    pub whole-names : {zeros slashes : ℕ} → not names ≡ false → zeros ≡ marksOf (λ x. eqb x 0) text at 64
+        → slashes ≡ marksOf (λ x. eqb x 47) text at 64 → zeros + slashes ≡ blockMarks names text at
+    whole-names n e f = ap₂ (λ (x y : ℕ). x + y) e f ∙ marks-names text at 64 ∙ rw (not-false names n, ends-whole)
 
-  -- both fit into one number
-  pub whole-room : {zeros slashes : ℕ} → zeros ≡ marksOf (λ x. eqb x 0) text at 64 → slashes ≡ marksOf (λ x. eqb x 47) text at 64
-      → zeros + slashes < 2 ^ 64
-  whole-room e f = omega (arith, marks-names text at 64, marks-bound (barred true) text at 64)
+-- both fit into one number
+pub whole-room : (text : List ℕ) (at : ℕ) {zeros slashes : ℕ} → zeros ≡ marksOf (λ x. eqb x 0) text at 64 → slashes ≡ marksOf (λ x. eqb x 47) text at 64
+    → Fits w64 (zeros + slashes)
+whole-room text at e f = omega (arith, marks-names text at 64, marks-bound (barred true) text at 64)
