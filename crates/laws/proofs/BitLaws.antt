@@ -1,36 +1,46 @@
 -- Laws of the bits of a number. Assumes nothing.
-use Prim.Native.Nat.{ℕ, zero, suc, _+_, _-_, _*_, _/_, _%_, _^_, _≤_, _<_, max}
-use mathlib.Core.Bool.{Bool, true, false, _||_, or-false}
+use Prim.Native.Nat.{ℕ, zero, suc, _+_, _-_, _*_, _/_, _%_, _^_, _≤_, _<_, max, min}
+use mathlib.Core.Bool.{Bool, true, false, _&&_, _||_, or-false}
 use mathlib.Core.Logic.{⊎-elim}
 use mathlib.Core.Path.{_≡_, refl, sym, ap, ap₂, _∙_}
 use native.Mathlib.Nat.{div-eq-of-lt, eq-or-lt-of-le, mul-div-cancel, one-mul, pow-suc}
 use native.Mathlib.Omega.{arith}
 use borrow.Author.Tests.{eq-eqb, ne-eqb}
 use lib.Dec.{eqb}
-use lib.Bits.{bitOr, or-step, or-shr, or-block, or-zero-r}
+use lib.Bits.{bitAnd, bitOr, and-step, and-shr, or-step, or-shr, or-block, or-zero-r}
 use lib.Pow.{pow-lt, pow-add, pow-pos}
 use Rattle.model.specs.Bytes.{has}
 use Rattle.laws.proofs.Cases.{below-or}
 
-digit-or : (p q : ℕ) → p < 2 → q < 2 → eqb (max p q) 1 ≡ eqb p 1 || eqb q 1
-digit-or zero zero hp hq = refl
-digit-or zero (suc zero) hp hq = refl
-digit-or (suc zero) zero hp hq = refl
-digit-or (suc zero) (suc zero) hp hq = refl
-digit-or zero (suc (suc q)) hp hq = absurd (omega arith)
-digit-or (suc zero) (suc (suc q)) hp hq = absurd (omega arith)
-digit-or (suc (suc p)) q hp hq = absurd (omega arith)
+-- what holds of the digits 0 and 1 holds of any two
+pub digits : (P : ℕ → ℕ → Type 0) → P 0 0 → P 0 1 → P 1 0 → P 1 1 → (p q : ℕ) → p < 2 → q < 2 → P p q
+digits P a b c d zero zero hp hq = a
+digits P a b c d zero (suc zero) hp hq = b
+digits P a b c d (suc zero) zero hp hq = c
+digits P a b c d (suc zero) (suc zero) hp hq = d
+digits P a b c d zero (suc (suc q)) hp hq = absurd (omega arith)
+digits P a b c d (suc zero) (suc (suc q)) hp hq = absurd (omega arith)
+digits P a b c d (suc (suc p)) q hp hq = absurd (omega arith)
 
-low-or : (u v : ℕ) → bitOr u v % 2 ≡ max (u % 2) (v % 2)
-low-or u v = let e = or-step u v in omega arith
-
--- "or" goes bit by bit
-pub has-or : (b x y : ℕ) → has (2 ^ b) (bitOr x y) ≡ has (2 ^ b) x || has (2 ^ b) y
+-- an operation goes bit by bit where a shift may come before it, and its lowest digit is told by two digits
+bit-by-bit : (op digit : ℕ → ℕ → ℕ) (f : Bool → Bool → Bool) → ((x y b : ℕ) → op x y / 2 ^ b ≡ op (x / 2 ^ b) (y / 2 ^ b))
+    → ((x y : ℕ) → op x y % 2 ≡ digit (x % 2) (y % 2)) → ((p q : ℕ) → p < 2 → q < 2 → eqb (digit p q) 1 ≡ f (eqb p 1) (eqb q 1))
+    → (b x y : ℕ) → has (2 ^ b) (op x y) ≡ f (has (2 ^ b) x) (has (2 ^ b) y)
 unfolding has
-has-or b x y =
-    ap (λ (z : ℕ). eqb (z % 2) 1) (or-shr x y b)
-    ∙ ap (λ (z : ℕ). eqb z 1) (low-or (x / 2 ^ b) (y / 2 ^ b))
-    ∙ digit-or (x / 2 ^ b % 2) (y / 2 ^ b % 2) (omega arith) (omega arith)
+bit-by-bit op digit f shifts lowest told b x y =
+    ap (λ (z : ℕ). eqb (z % 2) 1) (shifts x y b)
+    ∙ ap (λ (z : ℕ). eqb z 1) (lowest (x / 2 ^ b) (y / 2 ^ b))
+    ∙ told (x / 2 ^ b % 2) (y / 2 ^ b % 2) (omega arith) (omega arith)
+
+pub has-or : (b x y : ℕ) → has (2 ^ b) (bitOr x y) ≡ has (2 ^ b) x || has (2 ^ b) y
+has-or =
+    bit-by-bit bitOr max _||_ or-shr (λ x y. omega (arith, or-step x y))
+    (digits (λ p q. eqb (max p q) 1 ≡ eqb p 1 || eqb q 1) refl refl refl refl)
+
+pub has-and : (b x y : ℕ) → has (2 ^ b) (bitAnd x y) ≡ has (2 ^ b) x && has (2 ^ b) y
+has-and =
+    bit-by-bit bitAnd min _&&_ and-shr (λ x y. omega (arith, and-step x y))
+    (digits (λ p q. eqb (min p q) 1 ≡ eqb p 1 && eqb q 1) refl refl refl refl)
 
 -- a bit above a number's digits is not set
 high-clear : (b x : ℕ) → x < 2 ^ b → has (2 ^ b) x ≡ false

@@ -132,6 +132,20 @@ module _ (p : ℕ → Bool) (at end : ℕ) where
   unfolding find
   find-done h = let e : end - at ≡ 0 = omega arith in rw e
 
+-- A loop that searches up to `end`, and stands at k: `first`, which it looks for, is the first from k on.
+pub record Finds (p : ℕ → Bool) (end : ℕ) (first : Option ℕ) (k : ℕ) : Type 0 where
+  pub from-here : first ≡ find p k (end - k)
+
+module _ {p : ℕ → Bool} {end : ℕ} {first : Option ℕ} {k : ℕ} (loop : Finds p end first k) where
+  pub finds-here : k < end → p k ≡ true → some k ≡ first
+  finds-here h e = sym (loop .from-here ∙ find-here p k end h e)
+
+  pub finds-on : k < end → p k ≡ false → Finds p end first (k + 1)
+  finds-on h e = record { from-here = loop .from-here ∙ find-on p k end h e }
+
+  pub finds-none : end ≤ k → none ≡ first
+  finds-none h = sym (loop .from-here ∙ find-done p k end h)
+
 -- a search over two ranges, one after the other
 pub find-append : (p : ℕ → Bool) (at low high : ℕ) → find p at (low + high) ≡ orElse (find p at low) (find p (at + low) high)
 unfolding find

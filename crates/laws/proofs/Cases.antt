@@ -16,6 +16,11 @@ pub both : (a b : Bool) → (a && b) ≡ true → (a ≡ true) × (b ≡ true)
 both true b e = (refl, e)
 both false b e = absurd (false≢true e)
 
+-- and both of a disjunction that does not
+pub neither : (a b : Bool) → (a || b) ≡ false → (a ≡ false) × (b ≡ false)
+neither true b e = absurd (true≢false e)
+neither false b e = (refl, e)
+
 -- of a disjunction that holds, the first part where the second does not
 pub first-of : (a b : Bool) → (a || b) ≡ true → b ≡ false → a ≡ true
 first-of true b e f = refl

@@ -10,7 +10,7 @@ use Rattle.model.specs.Tree.{sizesOf, nodesPart, mountsPart, entriesPart, textP
 use Rattle.laws.specs.Acceptance.{Sized}
 use Rattle.laws.proofs.StringLaws.{part-between}
 
-part-get : (s : List ℕ) (at count k : ℕ) → k < count → getD (part s at count) k 0 ≡ getD s (at + k) 0
+pub part-get : (s : List ℕ) (at count k : ℕ) → k < count → getD (part s at count) k 0 ≡ getD s (at + k) 0
 unfolding part
 part-get s at count k h = getD-take count (drop at s) k 0 h ∙ getD-drop at s k 0
 

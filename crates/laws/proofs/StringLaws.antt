@@ -5,7 +5,7 @@ use mathlib.Core.List.{List, [], _∷_}
 use mathlib.Core.Path.{_≡_, refl, sym, ap, ap₂, _∙_}
 use native.Mathlib.Omega.{arith}
 use native.Mathlib.Numerals.{add-one}
-use borrow.Author.Tests.{eq-eqb, ne-eqb, eqb-true, ltb-true, ltb-false}
+use borrow.Author.Tests.{eq-eqb, ne-eqb, eqb-true, le-ltb, ltb-true, ltb-false}
 use lib.Dec.{eqb, ltb}
 use lib.ListN.{length, getD, take, drop, drop-of-length-le}
 use lib.Seq.{drop-cons}
@@ -24,17 +24,23 @@ pub contains-end : (b : ℕ) (s : List ℕ) (i : ℕ) → length s ≤ i → con
 unfolding contains
 contains-end b s i h = rw (drop-of-length-le s h)
 
--- what is known of the bytes before a position, and of the one at it
-pub seen-hit : (b : ℕ) (s : List ℕ) (i : ℕ) (found : Bool) → i < length s → contains b s ≡ found || contains b (drop i s) → getD s i 0 ≡ b
-    → contains b s ≡ true
-seen-hit b s i found h seen e = seen ∙ rw (contains-next b s i h, eq-eqb (getD s i 0) b e) (or-true found)
+-- A loop that looks for a byte stands at i: the byte was found, or stands in the string if it does from i on.
+pub record Seen (b : ℕ) (s : List ℕ) (found : Bool) (i : ℕ) : Type 0 where
+  pub from-here : contains b s ≡ found || contains b (drop i s)
 
-pub seen-miss : (b : ℕ) (s : List ℕ) (i : ℕ) (found : Bool) → i < length s → contains b s ≡ found || contains b (drop i s) → (getD s i 0 ≡ b → ⊥)
-    → contains b s ≡ found || contains b (drop (i + 1) s)
-seen-miss b s i found h seen e = seen ∙ rw (contains-next b s i h, ne-eqb (getD s i 0) b e)
+module _ {b : ℕ} {s : List ℕ} {found : Bool} {i : ℕ} (seen : Seen b s found i) where
+  pub seen-stands : i < length s → getD s i 0 ≡ b → true ≡ contains b s
+  seen-stands h e = sym (seen .from-here ∙ rw (contains-next b s i h, eq-eqb (getD s i 0) b e) (or-true found))
 
-pub seen-all : (b : ℕ) (s : List ℕ) (i : ℕ) (found : Bool) → length s ≤ i → contains b s ≡ found || contains b (drop i s) → found ≡ contains b s
-seen-all b s i found h seen = sym (seen ∙ rw (contains-end b s i h) (or-false found))
+  -- the flag after the byte at i
+  pub seen-hit : {after : Bool} → i < length s → getD s i 0 ≡ b → after ≡ true → Seen b s after (i + 1)
+  seen-hit h e f = record { from-here = rw f (sym (seen-stands h e)) }
+
+  pub seen-miss : {after : Bool} → i < length s → (getD s i 0 ≡ b → ⊥) → after ≡ found → Seen b s after (i + 1)
+  seen-miss h e f = record { from-here = rw f (seen .from-here ∙ rw (contains-next b s i h, ne-eqb (getD s i 0) b e)) }
+
+  pub seen-all : length s ≤ i → found ≡ contains b s
+  seen-all h = sym (seen .from-here ∙ rw (contains-end b s i h) (or-false found))
 
 -- strings of different lengths differ
 pub differing : (s t : List ℕ) → (length s ≡ length t → ⊥) → sameBytes s t ≡ false
@@ -44,14 +50,31 @@ differing [] (y ∷ t) h = refl
 differing (x ∷ s) [] h = refl
 differing (x ∷ s) (y ∷ t) h = rw (differing s t (λ e. h (ap suc e))) (and-false (eqb x y))
 
-pub same-next : (s t : List ℕ) (i : ℕ) → i < length s → i < length t
+same-next : (s t : List ℕ) (i : ℕ) → i < length s → i < length t
     → sameBytes (drop i s) (drop i t) ≡ eqb (getD s i 0) (getD t i 0) && sameBytes (drop (i + 1) s) (drop (i + 1) t)
 unfolding sameBytes
 same-next s t i h k = rw (next s i h, next t i k)
 
-pub same-end : (s t : List ℕ) (i : ℕ) → length s ≤ i → length t ≤ i → sameBytes (drop i s) (drop i t) ≡ true
-unfolding sameBytes
-same-end s t i h k = rw (drop-of-length-le s h, drop-of-length-le t k)
+-- A loop compares two strings of one length, and stands at i: they are the same if they are from i on.
+pub record SameFrom (s t : List ℕ) (i : ℕ) : Type 0 where
+  pub sized : length s ≡ length t
+  pub from-here : sameBytes s t ≡ sameBytes (drop i s) (drop i t)
+
+module _ {s t : List ℕ} {i : ℕ} (loop : SameFrom s t i) where
+  pub same-not : i < length s → (getD s i 0 ≡ getD t i 0 → ⊥) → false ≡ sameBytes s t
+  same-not h e = sym (loop .from-here ∙ same-next s t i h (omega (arith, loop .sized)) ∙ rw (ne-eqb (getD s i 0) (getD t i 0) e))
+
+  pub same-on : i < length s → getD s i 0 ≡ getD t i 0 → SameFrom s t (i + 1)
+  same-on h e = record {
+    sized = loop .sized;
+    from-here = loop .from-here ∙ same-next s t i h (omega (arith, loop .sized)) ∙ rw (eq-eqb (getD s i 0) (getD t i 0) e);
+  }
+
+  pub same-all : length s ≤ i → true ≡ sameBytes s t
+  unfolding sameBytes
+  same-all h =
+      let u : length t ≤ i = omega (arith, loop .sized) in
+      sym (loop .from-here ∙ rw (drop-of-length-le s h, drop-of-length-le t u))
 
 -- the test is equality
 pub same-equal : (s t : List ℕ) → sameBytes s t ≡ true → s ≡ t
@@ -94,6 +117,25 @@ before-ended s t i h = by (ltb i (length t)) refl
     by : (b : Bool) → ltb i (length t) ≡ b → before (drop i s) (drop i t) ≡ b
     by true e = before-long s t i h (ltb-true i (length t) e)
     by false e = before-short s t i (ltb-false i (length t) e)
+
+-- A loop compares two strings, and stands at i: their order is that of what they hold from i on.
+pub record OrderFrom (s t : List ℕ) (i : ℕ) : Type 0 where
+  pub from-here : before s t ≡ before (drop i s) (drop i t)
+
+module _ {s t : List ℕ} {i : ℕ} (loop : OrderFrom s t i) where
+  pub order-past : length t ≤ i → false ≡ before s t
+  order-past h = sym (loop .from-here ∙ before-short s t i h)
+
+  pub order-other : i < length s → i < length t → (getD s i 0 ≡ getD t i 0 → ⊥) → ltb (getD s i 0) (getD t i 0) ≡ before s t
+  order-other h k e = sym (loop .from-here ∙ before-next s t i h k ∙ rw (ne-eqb (getD s i 0) (getD t i 0) e) (or-false _))
+
+  pub order-on : i < length s → i < length t → getD s i 0 ≡ getD t i 0 → OrderFrom s t (i + 1)
+  order-on h k e = record {
+    from-here = loop .from-here ∙ before-next s t i h k ∙ rw (le-ltb (getD s i 0) (getD t i 0) (omega arith), eq-eqb (getD s i 0) (getD t i 0) e);
+  }
+
+  pub order-end : length s ≤ i → ltb i (length t) ≡ before s t
+  order-end h = sym (loop .from-here ∙ before-ended s t i h)
 
 -- the part between two positions
 pub part-between : (s : List ℕ) (at count start end : ℕ) → start ≡ at → end ≡ start + count → take (end - start) (drop start s) ≡ part s at count

@@ -25,11 +25,12 @@ pub record FirstFrom (p : ℕ → Bool) (end first k : ℕ) : Type 0 where
   pub from-here : first ≡ foundOr end (find p k (end - k))
 
 module _ {p : ℕ → Bool} {end first k : ℕ} (seen : FirstFrom p end first k) where
-  pub first-hit : k < end → p k ≡ true → k ≡ first
-  first-hit l e = sym (seen .from-here ∙ found-here p k end l e)
+  -- by what the test at k was told to be
+  pub first-hit : {told : Bool} → k < end → told ≡ p k → told ≡ true → k ≡ first
+  first-hit l e f = sym (seen .from-here ∙ found-here p k end l (sym e ∙ f))
 
-  pub first-miss : k < end → p k ≡ false → FirstFrom p end first (k + 1)
-  first-miss l e = record { within = omega arith; from-here = seen .from-here ∙ found-on p k end l e }
+  pub first-miss : {told : Bool} → k < end → told ≡ p k → told ≡ false → FirstFrom p end first (k + 1)
+  first-miss l e f = record { within = omega arith; from-here = seen .from-here ∙ found-on p k end l (sym e ∙ f) }
 
   pub first-none : end ≤ k → k ≡ first
   first-none u =

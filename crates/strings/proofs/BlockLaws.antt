@@ -11,18 +11,24 @@ use borrow.Author.Tests.{eq-eqb, ne-eqb, le-ltb, lt-ltb, eqb-true, eqb-false, lt
 use lib.Dec.{eqb, ltb}
 use lib.ListN.{length, getD, drop}
 use lib.Seq.{ext-getD}
+use mir.Syntax.{w8}
+use mir.Val.{Fits}
 use Rattle.model.specs.Bytes.{field, sameBytes, before}
 use Rattle.laws.proofs.ByteLaws.{field-ext, field-same, field-split}
 use Rattle.laws.proofs.Cases.{below-or, cond-cases}
 use Rattle.laws.proofs.StringLaws.{same-equal, equal-same, before-next, before-short, before-ended}
 use Rattle.strings.specs.Blocks.{bigEndian, SameTo, Deciding, differ, firstDiffering}
 
-abbrev pub Bytes : List ℕ → Type 0
-Bytes s = (i : ℕ) → getD s i 0 < 256
-
 -- the same bytes in a block
 abbrev Alike : List ℕ → List ℕ → ℕ → ℕ → Type 0
 Alike s t at width = (i : ℕ) → at ≤ i → i < at + width → getD s i 0 ≡ getD t i 0
+
+-- what the code has of each slice of bytes
+abbrev pub Bytes : List ℕ → Type 0
+Bytes s = (i : ℕ) → Fits w8 (getD s i 0)
+
+bytes-same : (width : ℕ) (s t : List ℕ) (at : ℕ) → Bytes s → Bytes t → field width s at ≡ field width t at → Alike s t at width
+bytes-same width s t at hs ht = field-same width s t at (λ i. hs i .fits) (λ i. ht i .fits)
 
 -- a number is its high bytes above its low bytes
 pub big-split : (high low : ℕ) (s : List ℕ) (at : ℕ)
@@ -171,7 +177,7 @@ module _ (width : ℕ) (s t : List ℕ) (at : ℕ) (known : SameTo s t at) where
   decides-here l e = record { within = l; alike = known; differs = λ h. block-other width s t at e }
 
   pub decides-later : Bytes s → Bytes t → differ width s t at ≡ false → SameTo s t (at + width)
-  decides-later hs ht e = further s t at width known (field-same width s t at hs ht (block-same width s t at e))
+  decides-later hs ht e = further s t at width known (bytes-same width s t at hs ht (block-same width s t at e))
 
   pub decides-last : {last : ℕ} → last ≤ at → Deciding width s t last last
   decides-last {last} l = record { within = omega arith; alike = not-further s t at last known l; differs = λ h f. omega arith }
@@ -197,12 +203,6 @@ empty-same : (s t : List ℕ) (at : ℕ) → differ 0 s t at ≡ false
 unfolding field
 empty-same s t at = loads-same 0 s t at refl refl refl
 
-pub seen-whole : (width : ℕ) (s t : List ℕ) (at far : ℕ) (found : Bool) → differ width s t at ≡ found || differ (at + width - far) s t far
-    → at + width ≤ far → found ≡ differ width s t at
-seen-whole width s t at far found seen l =
-    let n : at + width - far ≡ 0 = omega arith in
-    sym (seen ∙ ap (λ (v : ℕ). found || differ v s t far) n ∙ ap (λ (v : Bool). found || v) (empty-same s t far) ∙ or-false found)
-
 -- the first of the blocks side by side that differs
 module _ (width more : ℕ) (s t : List ℕ) (at : ℕ) {x y : ℕ} (ex : x ≡ field width s at) (ey : y ≡ field width t at) where
   pub first-here : (x ≡ y → ⊥) → firstDiffering width (suc more) s t at ≡ at
@@ -218,7 +218,7 @@ module _ (s t : List ℕ) (hs : Bytes s) (ht : Bytes t) where
   pub differ-inside : (width inner at far : ℕ) → at ≤ far → far + inner ≤ at + width → differ inner s t far ≡ true → differ width s t at ≡ true
   differ-inside width inner at far l u e =
       loads-differ width s t at refl refl
-      (λ q. block-other inner s t far e (field-ext inner s t far (λ i k h. field-same width s t at hs ht q i (omega arith) (omega arith))))
+      (λ q. block-other inner s t far e (field-ext inner s t far (λ i k h. bytes-same width s t at hs ht q i (omega arith) (omega arith))))
 
   -- and where its lower part is the same, as its upper part does
   pub differ-later : (low high at next : ℕ) → at + low ≡ next → differ low s t at ≡ false → differ (low + high) s t at ≡ differ high s t next
@@ -227,20 +227,6 @@ module _ (s t : List ℕ) (hs : Bytes s) (ht : Bytes t) where
       by : (b : Bool) → differ high s t (at + low) ≡ b → differ (low + high) s t at ≡ b
       by true h = differ-inside (low + high) high at (at + low) (omega arith) (omega arith) h
       by false h = loads-same (low + high) s t at refl refl (parts-same low high s t at (block-same low s t at e) (block-same high s t (at + low) h))
-
-  -- byte by byte: a block differs if one of its bytes was seen to, or what is left of it does
-  pub seen-other : (width at far : ℕ) → at ≤ far → far < at + width → (getD s far 0 ≡ getD t far 0 → ⊥) → differ width s t at ≡ true
-  seen-other width at far l h other =
-      differ-inside width 1 at far l (omega arith) (loads-differ 1 s t far (byte-field s far) (byte-field t far) other)
-
-  pub seen-same : (width at far : ℕ) (found : Bool) → differ width s t at ≡ found || differ (at + width - far) s t far
-      → far < at + width → getD s far 0 ≡ getD t far 0 → differ width s t at ≡ found || differ (at + width - (far + 1)) s t (far + 1)
-  seen-same width at far found seen h e =
-      let left = at + width - (far + 1) in
-      let n : at + width - far ≡ 1 + left = omega arith in
-      seen
-      ∙ ap (λ (v : ℕ). found || differ v s t far) n
-      ∙ ap (λ (v : Bool). found || v) (differ-later 1 left far (far + 1) refl (loads-same 1 s t far (byte-field s far) (byte-field t far) e))
 
   -- of a wide block that decides between two strings, the first of its blocks that differs, or the last of them, does
   pub first-decides : (width more : ℕ) {short last at : ℕ} → short + more * width ≡ last → Deciding (width + more * width) s t short at
@@ -258,8 +244,38 @@ module _ (s t : List ℕ) (hs : Bytes s) (ht : Bytes t) where
       (lower-part width high wide (omega arith))
       (λ e. first-decides width more (omega arith) (upper-part width high wide hs ht refl e))
 
+-- A loop looks for a byte that differs in a block, and stands at `far`: the block differs if one was found, or what is left of it does.
+pub record SeenTo (width : ℕ) (s t : List ℕ) (at : ℕ) (found : Bool) (far : ℕ) : Type 0 where
+  pub from : at ≤ far
+  pub seen : differ width s t at ≡ found || differ (at + width - far) s t far
+
+pub seen-start : (width : ℕ) (s t : List ℕ) (at : ℕ) → SeenTo width s t at false at
+seen-start width s t at =
+    let n : width ≡ at + width - at = omega arith in
+    record { from = omega arith; seen = ap (λ (v : ℕ). differ v s t at) n }
+
+module _ {width : ℕ} {s t : List ℕ} {at : ℕ} {found : Bool} {far : ℕ} (block : SeenTo width s t at found far) where
+  pub seen-other : {after : Bool} → Bytes s → Bytes t → far < at + width → (getD s far 0 ≡ getD t far 0 → ⊥) → after ≡ true
+      → SeenTo width s t at after (far + 1)
+  seen-other hs ht h other e =
+      let one = loads-differ 1 s t far (byte-field s far) (byte-field t far) other in
+      record { from = omega (arith, block .from); seen = rw e (differ-inside s t hs ht width 1 at far (block .from) (omega arith) one) }
+
+  pub seen-same : {after : Bool} → Bytes s → Bytes t → far < at + width → getD s far 0 ≡ getD t far 0 → after ≡ found
+      → SeenTo width s t at after (far + 1)
+  seen-same hs ht h same e =
+      let left = at + width - (far + 1) in
+      let n : at + width - far ≡ 1 + left = omega arith in
+      let one = loads-same 1 s t far (byte-field s far) (byte-field t far) same in
+      record { from = omega (arith, block .from); seen = rw (e, ← differ-later s t hs ht 1 left far (far + 1) refl one, ← n) (block .seen) }
+
+  pub seen-whole : at + width ≤ far → found ≡ differ width s t at
+  seen-whole l =
+      let n : at + width - far ≡ 0 = omega arith in
+      sym (rw (n, empty-same s t far, or-false found) at (block .seen))
+
 -- the deciding block decides
-module _ (width : ℕ) (s t : List ℕ) (hs : Bytes s) (ht : Bytes t) (last at : ℕ) (block : Deciding width s t last at) where
+module _ {width : ℕ} {s t : List ℕ} {last at : ℕ} (block : Deciding width s t last at) (hs : Bytes s) (ht : Bytes t) where
   to-the-last : Alike s t at width → SameTo s t (last + width)
   to-the-last h =
       ⊎-elim
@@ -267,23 +283,23 @@ module _ (width : ℕ) (s t : List ℕ) (hs : Bytes s) (ht : Bytes t) (last at :
       (λ (q : at < last). absurd (block .differs q (field-ext width s t at h)))
       (eq-or-lt-of-le (block .within))
 
-  pub deciding-same : (x y : ℕ) → x ≡ field width s at → y ≡ field width t at → last + width ≡ length s → length s ≡ length t
+  pub deciding-same : {x y : ℕ} → x ≡ field width s at → y ≡ field width t at → last + width ≡ length s → length s ≡ length t
       → eqb x y ≡ sameBytes s t
-  deciding-same x y ex ey ls e = by (eqb x y) refl
+  deciding-same {x} {y} ex ey ls e = by (eqb x y) refl
     where
       by : (b : Bool) → eqb x y ≡ b → b ≡ sameBytes s t
       by true f =
-          let known = to-the-last (field-same width s t at hs ht (sym ex ∙ eqb-true x y f ∙ ey)) in
+          let known = to-the-last (bytes-same width s t at hs ht (sym ex ∙ eqb-true x y f ∙ ey)) in
           sym (same-all s t e (subst (λ (k : ℕ). SameTo s t k) ls known))
       by false f = sym (same-not width s t at (λ q. eqb-false x y f (ex ∙ q ∙ sym ey)))
 
-  pub deciding-before : (x y : ℕ) → x ≡ bigEndian width s at → y ≡ bigEndian width t at → last + width ≤ length s → last + width ≤ length t
+  pub deciding-before : {x y : ℕ} → x ≡ bigEndian width s at → y ≡ bigEndian width t at → last + width ≤ length s → last + width ≤ length t
       → (x ≡ y → ⊥) → ltb x y ≡ before s t
-  deciding-before x y ex ey ls lt other =
+  deciding-before ex ey ls lt other =
       ap₂ ltb ex ey
       ∙ sym (before-big width s t hs ht at (block .alike) (omega (arith, block .within)) (omega (arith, block .within)) (λ q. other (ex ∙ q ∙ sym ey)))
 
-  pub deciding-begun : (x y : ℕ) → x ≡ bigEndian width s at → y ≡ bigEndian width t at → last + width ≤ length s → last + width ≤ length t
+  pub deciding-begun : {x y : ℕ} → x ≡ bigEndian width s at → y ≡ bigEndian width t at → last + width ≤ length s → last + width ≤ length t
       → (last + width < length s → length t ≡ last + width) → x ≡ y → ltb (length s) (length t) ≡ before s t
-  deciding-begun x y ex ey ls lt end e =
+  deciding-begun ex ey ls lt end e =
       sym (before-begun s t (last + width) (to-the-last (big-same s t hs ht width at (sym ex ∙ e ∙ ey))) ls lt end)

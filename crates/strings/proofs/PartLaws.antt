@@ -1,16 +1,12 @@
 -- A byte that does not stand in a string stands in no part of it. Assumes nothing.
 use Prim.Native.Nat.{ℕ, zero, suc}
-use mathlib.Core.Bool.{Bool, true, false, _||_, true≢false}
+use mathlib.Core.Bool.{false}
 use mathlib.Core.List.{List, [], _∷_}
 use mathlib.Core.Path.{_≡_, refl}
 use lib.Dec.{eqb}
 use lib.ListN.{take, drop}
 use Rattle.model.specs.Bytes.{part, contains}
-
--- both parts of a disjunction that does not hold
-pub neither : (a b : Bool) → (a || b) ≡ false → (a ≡ false) × (b ≡ false)
-neither true b e = absurd (true≢false e)
-neither false b e = (refl, e)
+use Rattle.laws.proofs.Cases.{neither}
 
 not-in-drop : (b n : ℕ) (s : List ℕ) → contains b s ≡ false → contains b (drop n s) ≡ false
 unfolding contains

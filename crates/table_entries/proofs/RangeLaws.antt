@@ -21,6 +21,10 @@ use Rattle.laws.proofs.Cases.{both}
 use Rattle.laws.proofs.EntryLaws.{is-directory, first-ascends, later-ascends}
 use Rattle.parts.specs.Parts.{entriesTree, EntryRecords}
 use Rattle.parts.specs.declared.records.Counts.{Counts}
+use Rattle.parts.specs.declared.search.Search.{Search}
+use Rattle.parts.specs.declared.search.Search.the-variants.{At, Nowhere}
+use Rattle.parts.specs.Searches.{searchOf}
+use Rattle.parts.proofs.SearchLaws.{search-at, search-nowhere}
 use Rattle.table_entries.specs.Given.{Named}
 use Rattle.table_entries.specs.Ranges.{badIn, badOf, ascendsFrom, endsEntries}
 
@@ -57,13 +61,6 @@ counts-suc : (t : Tree) (n : ℕ) → countsBefore t (n + 1) ≡ countsBefore t 
 unfolding countsBefore sumBelow
 counts-suc t n = rw (add-one n)
 
-pub rule5-start : (t : Tree) → rule5 t ≡ badFrom t 0
-unfolding rule5 firstFailing countsBefore sumBelow
-rule5-start t = let e : t .entries - 0 ≡ t .entries = omega arith in rw e
-
-pub rule5-end : (t : Tree) (n : ℕ) → rule5 t ≡ badFrom t n → countsBefore t n ≡ t .entries → rule5 t ≡ none
-rule5-end t n seen e = seen ∙ find-done (λ k. not (entryHolds t k)) (countsBefore t n) (t .entries) (le-of-eq (sym e))
-
 -- a node that is no directory has no entries
 pub other-bad : (t : Tree) (n : ℕ) → (t .kind n ≡ 1 → ⊥) → badOf t n ≡ none
 unfolding directoryCount find
@@ -87,12 +84,38 @@ module _ (t : Tree) (directories : DirectoriesHold t) where
       ap (badIn t at) e ∙ find-append (λ k. not (entryHolds t k)) at (directoryCount t n) rest
       ∙ ap (λ (k : ℕ). orElse (badOf t n) (badIn t k rest)) (sym (counts-suc t n))
 
-  -- what a node's entries say of the rule, where those before keep it
-  pub rule5-here : (n e : ℕ) → n < t .nodes → rule5 t ≡ badFrom t n → badOf t n ≡ some e → rule5 t ≡ some e
-  rule5-here n e h seen b = seen ∙ node-step n h ∙ rw b
+-- A loop over the nodes stands at n: the lowest bad entry is the lowest from the entries of n on.
+pub record BadFrom (t : Tree) (end n : ℕ) : Type 0 where
+  pub ends : end ≡ t .nodes
+  pub within : n ≤ end
+  pub from-here : rule5 t ≡ badFrom t n
 
-  pub rule5-on : (n : ℕ) → n < t .nodes → rule5 t ≡ badFrom t n → badOf t n ≡ none → rule5 t ≡ badFrom t (n + 1)
-  rule5-on n h seen b = seen ∙ node-step n h ∙ rw b
+pub bad-start : (t : Tree) → BadFrom t (t .nodes) 0
+unfolding rule5 firstFailing countsBefore sumBelow
+bad-start t = let e : t .entries - 0 ≡ t .entries = omega arith in record { ends = refl; within = omega arith; from-here = rw e }
+
+module _ {t : Tree} {end n : ℕ} (directories : DirectoriesHold t) (loop : BadFrom t end n) where
+  none-left : countsBefore t n ≡ t .entries → Nowhere ≡ searchOf (rule5 t)
+  none-left e = sym (ap searchOf (loop .from-here ∙ find-done (λ k. not (entryHolds t k)) (countsBefore t n) (t .entries) (le-of-eq (sym e))))
+
+  pub bad-none : end ≤ n → Nowhere ≡ searchOf (rule5 t)
+  bad-none h =
+      let e : n ≡ t .nodes = omega (arith, loop .ends, loop .within) in
+      none-left (ap (countsBefore t) e ∙ directories .counts-sum)
+
+  -- by what was found among the node's entries
+  module _ {found : Search} (h : n < end) (is : found ≡ searchOf (badOf t n)) where
+    pub bad-here : {e : ℕ} → found ≡ At e → At e ≡ searchOf (rule5 t)
+    bad-here {e} f =
+        let r : rule5 t ≡ some e = loop .from-here ∙ node-step t directories n (omega (arith, loop .ends)) ∙ rw (search-at (badOf t n) e (sym is ∙ f)) in
+        sym (ap searchOf r)
+
+    pub bad-on : found ≡ Nowhere → BadFrom t end (n + 1)
+    bad-on f = record {
+      ends = loop .ends;
+      within = omega arith;
+      from-here = loop .from-here ∙ node-step t directories n (omega (arith, loop .ends)) ∙ rw (search-nowhere (badOf t n) (sym is ∙ f));
+    }
 
 -- the same of parts, as the code reads them
 module _ (c : Counts) (nodes entries text : List ℕ) where
@@ -113,7 +136,7 @@ module _ (c : Counts) (nodes entries text : List ℕ) where
         by false l = sym (first-ascends (entriesTree c nodes entries text) directories n e h (omega (arith, ltb-false first e l, h .from)))
 
     -- a directory whose entries end where all do
-    pub ends-counts : (n : ℕ) → n < c .nodes → endsEntries c nodes n ≡ true → countsBefore (entriesTree c nodes entries text) (n + 1) ≡ c .entries
+    ends-counts : (n : ℕ) → n < c .nodes → endsEntries c nodes n ≡ true → countsBefore (entriesTree c nodes entries text) (n + 1) ≡ c .entries
     unfolding endsEntries
     ends-counts n h e =
         let t = entriesTree c nodes entries text in
@@ -121,3 +144,10 @@ module _ (c : Counts) (nodes entries text : List ℕ) where
         let k = eqb-true (kindIn nodes n) 1 (b .0) in
         let l = eqb-true (firstIn nodes n + countIn nodes n) (c .entries) (b .1) in
         ap (countsBefore t) (add-one n) ∙ omega (arith, counts-next t directories n k, first-sum t directories n (is-directory t n h k), l)
+
+    -- so no entry is left after it
+    pub bad-ended : {end n : ℕ} {found : Search} {ended : Bool} → let t = entriesTree c nodes entries text in
+        BadFrom t end n → n < end → found ≡ searchOf (badOf t n) → found ≡ Nowhere → ended ≡ endsEntries c nodes n → ended ≡ true
+        → Nowhere ≡ searchOf (rule5 t)
+    bad-ended {n = n} loop h is f e g =
+        none-left directories (bad-on directories loop h is f) (ends-counts n (omega (arith, loop .ends)) (sym e ∙ g))

@@ -22,24 +22,39 @@ use Rattle.table_leads.proofs.LeadLaws.{into-facts}
 
 -- a step of a climb, and its ends
 module _ (parent : ℕ → ℕ) (n r : ℕ) where
-  pub climbs-on : (left : ℕ) → r < n → climbed parent (suc left) n r ≡ climbed parent left (parent n) r
+  climbs-on : (left : ℕ) → r < n → climbed parent (suc left) n r ≡ climbed parent left (parent n) r
   unfolding climbed
   climbs-on left h = rw (lt-ltb r n h)
 
-  pub climb-spent : (left : ℕ) → left ≡ 0 → climbed parent left n r ≡ 0
+  misses : (left : ℕ) → n ≤ r → (n ≡ r → ⊥) → climbed parent left n r ≡ 0
   unfolding climbed
-  climb-spent zero e = refl
-  climb-spent (suc left) e = absurd (omega arith)
+  misses zero h e = refl
+  misses (suc left) h e = rw (le-ltb r n h, ne-eqb n r e)
 
-  pub climb-met : (left : ℕ) → n ≡ r → climbed parent left n r ≡ left
-  unfolding climbed
-  climb-met zero e = refl
-  climb-met (suc left) e = rw (le-ltb r n (omega arith), eq-eqb n r e)
+-- A loop climbs to a root, and stands at n: `whole`, which it looks for, is what the climb from n comes to with the steps left.
+pub record Climbs (parent : ℕ → ℕ) (r whole left n : ℕ) : Type 0 where
+  pub from-here : whole ≡ climbed parent left n r
 
-  pub climb-missed : (left : ℕ) → n ≤ r → (n ≡ r → ⊥) → climbed parent left n r ≡ 0
+module _ {parent : ℕ → ℕ} {r whole left n : ℕ} (climb : Climbs parent r whole left n) where
+  pub climb-spent : left ≡ 0 → 0 ≡ whole
   unfolding climbed
-  climb-missed zero h e = refl
-  climb-missed (suc left) h e = rw (le-ltb r n h, ne-eqb n r e)
+  climb-spent e = sym (climb .from-here ∙ rw e)
+
+  pub climb-on : {next : ℕ} → r < n → (left ≡ 0 → ⊥) → next ≡ parent n → Climbs parent r whole (left - 1) next
+  climb-on h e f =
+      let one : left ≡ suc (left - 1) = omega arith in
+      record { from-here = rw f (climb .from-here ∙ ap (λ (k : ℕ). climbed parent k n r) one ∙ climbs-on parent n r (left - 1) h) }
+
+  pub climb-met : n ≡ r → left ≡ whole
+  unfolding climbed
+  climb-met e = sym (climb .from-here ∙ by left)
+    where
+      by : (left : ℕ) → climbed parent left n r ≡ left
+      by zero = refl
+      by (suc left) = rw (le-ltb r n (omega arith), eq-eqb n r e)
+
+  pub climb-missed : n ≤ r → (n ≡ r → ⊥) → 0 ≡ whole
+  climb-missed h e = sym (climb .from-here ∙ misses parent n r left h e)
 
 module _ (t : Tree) (directories : DirectoriesHold t) where
   -- a root that is met in time is met
@@ -53,7 +68,7 @@ module _ (t : Tree) (directories : DirectoriesHold t) where
           → under t n r ≡ true
       by a e true f up = under-self t directories r n d (eqb-true n r f)
       by true e false f up = under-parent t directories r n d ∙ rw f (up (λ z. h (climbs-on (t .parent) n r steps (ltb-true r n e) ∙ z)))
-      by false e false f up = absurd (h (climb-missed (t .parent) n r (suc steps) (ltb-false r n e) (eqb-false n r f)))
+      by false e false f up = absurd (h (misses (t .parent) n r (suc steps) (ltb-false r n e) (eqb-false n r f)))
 
   -- what is seen to keep its rule keeps it
   pub seen-keeps : (links : Bool) (k steps : ℕ) → k < cond links (t .nodes) (t .mounts) → (stepsAfter t (leadBy links t k) steps ≡ 0 → ⊥)
@@ -66,6 +81,21 @@ module _ (t : Tree) (directories : DirectoriesHold t) where
       by (Into mount node) e h = climbed-under steps node (t .mountRoot mount) (into-facts t links k mount node below e .1) h
       by Dangling e h = absurd (h refl)
 
+-- the steps left after a record, by the lead that was read
+module _ (links : Bool) (t : Tree) (k steps : ℕ) {lead : Lead} (is : lead ≡ leadBy links t k) where
+  pub steps-settled : lead ≡ Settled → steps ≡ stepsAfter t (leadBy links t k) steps
+  unfolding stepsAfter
+  steps-settled e = rw (← is, e)
+
+  pub steps-into : {mount node root left : ℕ} → lead ≡ Into mount node → root ≡ t .mountRoot mount → left ≡ climbed (t .parent) steps node root
+      → left ≡ stepsAfter t (leadBy links t k) steps
+  unfolding stepsAfter
+  steps-into {node = node} e r f = f ∙ rw (← is, e) (ap (climbed (t .parent) steps node) r)
+
+  pub steps-dangling : lead ≡ Dangling → 0 ≡ stepsAfter t (leadBy links t k) steps
+  unfolding stepsAfter
+  steps-dangling e = rw (← is, e)
+
 -- the turns of the loop over records
 module _ (links : Bool) (t : Tree) (k end steps : ℕ) where
   unseen-step : k < end → unseenFrom links t k (end - k) steps
@@ -73,16 +103,32 @@ module _ (links : Bool) (t : Tree) (k end steps : ℕ) where
   unfolding unseenFrom
   unseen-step h = let e : end - k ≡ suc (end - (k + 1)) = omega arith in rw (e, add-one k)
 
-  pub unseen-here : k < end → stepsAfter t (leadBy links t k) steps ≡ 0 → unseenFrom links t k (end - k) steps ≡ k
+  unseen-here : k < end → stepsAfter t (leadBy links t k) steps ≡ 0 → unseenFrom links t k (end - k) steps ≡ k
   unseen-here h e = unseen-step h ∙ rw (eq-eqb (stepsAfter t (leadBy links t k) steps) 0 e)
 
-  pub unseen-on : k < end → (stepsAfter t (leadBy links t k) steps ≡ 0 → ⊥)
+  unseen-on : k < end → (stepsAfter t (leadBy links t k) steps ≡ 0 → ⊥)
       → unseenFrom links t k (end - k) steps ≡ unseenFrom links t (k + 1) (end - (k + 1)) (stepsAfter t (leadBy links t k) steps)
   unseen-on h e = unseen-step h ∙ rw (ne-eqb (stepsAfter t (leadBy links t k) steps) 0 e)
 
-  pub unseen-done : end ≤ k → unseenFrom links t k (end - k) steps ≡ k
+  unseen-done : end ≤ k → unseenFrom links t k (end - k) steps ≡ k
   unfolding unseenFrom
   unseen-done h = let e : end - k ≡ 0 = omega arith in rw e
+
+-- A loop over the records stands at k: `first`, where it stops, is where it stops from k on with the steps left.
+pub record Unseen (links : Bool) (t : Tree) (end first steps k : ℕ) : Type 0 where
+  pub from-here : first ≡ unseenFrom links t k (end - k) steps
+
+module _ {links : Bool} {t : Tree} {end first steps k : ℕ} (loop : Unseen links t end first steps k) where
+  -- by the steps that were left after the record
+  module _ {left : ℕ} (h : k < end) (is : left ≡ stepsAfter t (leadBy links t k) steps) where
+    pub stops-here : left ≡ 0 → k ≡ first
+    stops-here e = sym (loop .from-here ∙ unseen-here links t k end steps h (sym is ∙ e))
+
+    pub goes-on : (left ≡ 0 → ⊥) → Unseen links t end first left (k + 1)
+    goes-on e = record { from-here = rw is (loop .from-here ∙ unseen-on links t k end steps h (λ f. e (is ∙ f))) }
+
+  pub stops-done : end ≤ k → k ≡ first
+  stops-done h = sym (loop .from-here ∙ unseen-done links t k end steps h)
 
 -- no record from the end on is asked
 pub broken-done : (links : Bool) (t : Tree) (at end : ℕ) → end ≤ at → brokenFrom links t at end ≡ end

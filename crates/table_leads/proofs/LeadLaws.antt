@@ -3,7 +3,7 @@ use Prim.Native.Nat.{ℕ, zero, suc, _≤_, _<_}
 use mathlib.Core.Bool.{Bool, true, false, cond, not, _&&_, and-false, and-true}
 use mathlib.Core.Path.{_≡_, refl, sym, ap, _∙_, subst}
 use native.Mathlib.Omega.{arith}
-use borrow.Author.Tests.{eq-eqb, ne-eqb, lt-ltb, le-ltb, ltb-true}
+use borrow.Author.Tests.{eq-eqb, ne-eqb, lt-ltb, le-ltb, ltb-true, not-true, not-false}
 use lib.Dec.{eqb, ltb}
 use Rattle.model.specs.Bytes.{find}
 use Rattle.model.specs.Tree.{Tree, byKind, isDirectory, under}
@@ -107,92 +107,97 @@ module _ (t : Tree) where
   into-facts true k mount node h e = link-into k mount node e
   into-facts false k mount node h e = mount-into k mount node h e
 
-  -- the cases of mount 0
-  pub zero-parent : (t .mountParent 0 ≡ 0 → ⊥) → Dangling ≡ hangsLead t 0
+  -- the cases of mount 0, by what was read
+  pub zero-parent : {parent : ℕ} → parent ≡ t .mountParent 0 → (parent ≡ 0 → ⊥) → Dangling ≡ hangsLead t 0
   unfolding hangsLead
-  zero-parent h = rw (ne-eqb (t .mountParent 0) 0 h)
+  zero-parent {parent} p h = rw (← p, ne-eqb parent 0 h)
 
-  pub zero-point : (t .mountPoint 0 ≡ t .mountRoot 0 → ⊥) → Dangling ≡ hangsLead t 0
-  unfolding hangsLead
-  zero-point h = rw (ne-eqb (t .mountPoint 0) (t .mountRoot 0) h, and-false (eqb (t .mountParent 0) 0))
+  module _ {point root : ℕ} (q : point ≡ t .mountPoint 0) (r : root ≡ t .mountRoot 0) where
+    pub zero-point : (point ≡ root → ⊥) → Dangling ≡ hangsLead t 0
+    unfolding hangsLead
+    zero-point h = rw (← q, ← r, ne-eqb point root h, and-false (eqb (t .mountParent 0) 0))
 
-  pub zero-settled : t .mountParent 0 ≡ 0 → t .mountPoint 0 ≡ t .mountRoot 0 → Settled ≡ hangsLead t 0
-  unfolding hangsLead
-  zero-settled p r = rw (eq-eqb (t .mountParent 0) 0 p, eq-eqb (t .mountPoint 0) (t .mountRoot 0) r)
+    pub zero-settled : {parent : ℕ} → point ≡ root → parent ≡ t .mountParent 0 → parent ≡ 0 → Settled ≡ hangsLead t 0
+    unfolding hangsLead
+    zero-settled {parent} f p e = rw (← p, ← q, ← r, eq-eqb parent 0 e, eq-eqb point root f)
 
   -- those of a point
   module _ (m : ℕ) where
-    pub point-late : m ≤ t .mountParent m → Dangling ≡ pointLead t m
+    pub point-late : {parent : ℕ} → parent ≡ t .mountParent m → m ≤ parent → Dangling ≡ pointLead t m
     unfolding pointLead
-    point-late h = rw (le-ltb (t .mountParent m) m h)
+    point-late {parent} p h = rw (← p, le-ltb parent m h)
 
-    pub point-other : isDirectory t (t .mountPoint m) ≡ false → Dangling ≡ pointLead t m
-    unfolding pointLead
-    point-other d = rw (d, and-false (ltb (t .mountParent m) m))
+    module _ {point : ℕ} (q : point ≡ t .mountPoint m) where
+      pub point-other : {told : Bool} → told ≡ isDirectory t point → not told ≡ true → Dangling ≡ pointLead t m
+      unfolding pointLead
+      point-other {told} d n = rw (← q, ← d, not-true told n, and-false (ltb (t .mountParent m) m))
 
-    pub point-root : t .mountPoint m ≡ t .mountRoot (t .mountParent m) → Dangling ≡ pointLead t m
-    unfolding pointLead
-    point-root e =
-        rw (eq-eqb (t .mountPoint m) (t .mountRoot (t .mountParent m)) e, and-false (ltb (t .mountParent m) m && isDirectory t (t .mountPoint m)))
+      module _ {parent root : ℕ} (p : parent ≡ t .mountParent m) (r : root ≡ t .mountRoot parent) where
+        pub point-root : point ≡ root → Dangling ≡ pointLead t m
+        unfolding pointLead
+        point-root e = rw (← p, ← q, ← r, eq-eqb point root e, and-false (ltb parent m && isDirectory t point))
 
-    pub point-into : t .mountParent m < m → isDirectory t (t .mountPoint m) ≡ true → (t .mountPoint m ≡ t .mountRoot (t .mountParent m) → ⊥)
-        → Into (t .mountParent m) (t .mountPoint m) ≡ pointLead t m
-    unfolding pointLead
-    point-into l d e = rw (lt-ltb (t .mountParent m) m l, d, ne-eqb (t .mountPoint m) (t .mountRoot (t .mountParent m)) e)
+        pub point-into : {told : Bool} → (point ≡ root → ⊥) → parent < m → told ≡ isDirectory t point → not told ≡ false
+            → Into parent point ≡ pointLead t m
+        unfolding pointLead
+        point-into {told} e l d n = rw (← p, ← q, ← r, lt-ltb parent m l, ← d, not-false told n, ne-eqb point root e)
 
   -- those of a mount
   module _ (m : ℕ) where
-    pub root-other : isDirectory t (t .mountRoot m) ≡ false → Dangling ≡ mountLead t m
+    pub zero-set : {zeros : ℕ} → zeros ≡ t .mountZero m → (zeros ≡ 0 → ⊥) → Dangling ≡ mountLead t m
     unfolding mountLead
-    root-other d = rw d
+    zero-set {zeros} z e = rw (← z, ne-eqb zeros 0 e, and-false (isDirectory t (t .mountRoot m)))
 
-    pub zero-set : (t .mountZero m ≡ 0 → ⊥) → Dangling ≡ mountLead t m
-    unfolding mountLead
-    zero-set z = rw (ne-eqb (t .mountZero m) 0 z, and-false (isDirectory t (t .mountRoot m)))
-
-    module _ (d : isDirectory t (t .mountRoot m) ≡ true) (z : t .mountZero m ≡ 0) where
-      pub lead-zeroth : m ≡ 0 → hangsLead t 0 ≡ mountLead t m
+    module _ {root : ℕ} {told : Bool} (r : root ≡ t .mountRoot m) (d : told ≡ isDirectory t root) where
+      pub root-other : not told ≡ true → Dangling ≡ mountLead t m
       unfolding mountLead
-      lead-zeroth e = rw (d, eq-eqb (t .mountZero m) 0 z) (ap (hangsLead t) (sym e))
+      root-other n = rw (← r, ← d, not-true told n)
 
-      pub lead-point : (m ≡ 0 → ⊥) → pointLead t m ≡ mountLead t m
-      unfolding mountLead
-      lead-point e = rw (d, eq-eqb (t .mountZero m) 0 z) (later-lead t m e)
+      module _ {zeros : ℕ} (n : not told ≡ false) (z : zeros ≡ t .mountZero m) (e : zeros ≡ 0) where
+        lead-hangs : mountLead t m ≡ hangsLead t m
+        unfolding mountLead
+        lead-hangs = rw (← r, ← d, not-false told n, ← z, eq-eqb zeros 0 e)
+
+        pub lead-zeroth : {lead : Lead} → m ≡ 0 → lead ≡ hangsLead t 0 → lead ≡ mountLead t m
+        lead-zeroth f h = h ∙ ap (hangsLead t) (sym f) ∙ sym lead-hangs
+
+        pub lead-point : {lead : Lead} → (m ≡ 0 → ⊥) → lead ≡ pointLead t m → lead ≡ mountLead t m
+        lead-point f h = h ∙ later-lead t m f ∙ sym lead-hangs
 
   -- those of a magic link
-  module _ (n : ℕ) where
-    pub lead-other : (t .kind n ≡ 4 → ⊥) → Settled ≡ linkLead t n
+  module _ (n : ℕ) {kind : ℕ} (k : kind ≡ t .kind n) where
+    pub lead-other : (kind ≡ 4 → ⊥) → Settled ≡ linkLead t n
     unfolding linkLead
-    lead-other k = rw (ne-eqb (t .kind n) 4 k)
+    lead-other e = rw (← k, ne-eqb kind 4 e)
 
-    pub lead-mount : t .kind n ≡ 4 → t .mounts ≤ t .first n → Dangling ≡ linkLead t n
-    unfolding linkLead
-    lead-mount k h = rw (eq-eqb (t .kind n) 4 k, le-ltb (t .first n) (t .mounts) h)
-
-    pub lead-node : t .kind n ≡ 4 → t .first n < t .mounts → t .nodes ≤ t .count n → Dangling ≡ linkLead t n
-    unfolding linkLead
-    lead-node k l h = rw (eq-eqb (t .kind n) 4 k, lt-ltb (t .first n) (t .mounts) l, le-ltb (t .count n) (t .nodes) h)
-
-    module _ (k : t .kind n ≡ 4) (l : t .first n < t .mounts) (h : t .count n < t .nodes) where
-      lead-kind : linkLead t n ≡ byKind (t .kind (t .count n)) (Into (t .first n) (t .count n)) Settled Dangling Dangling Dangling
+    module _ {mount : ℕ} (four : kind ≡ 4) (m : mount ≡ t .first n) where
+      pub lead-mount : t .mounts ≤ mount → Dangling ≡ linkLead t n
       unfolding linkLead
-      lead-kind = rw (eq-eqb (t .kind n) 4 k, lt-ltb (t .first n) (t .mounts) l, lt-ltb (t .count n) (t .nodes) h)
+      lead-mount h = rw (← k, eq-eqb kind 4 four, ← m, le-ltb mount (t .mounts) h)
 
-      pub lead-directory : t .kind (t .count n) ≡ 1 → Into (t .first n) (t .count n) ≡ linkLead t n
-      lead-directory e = sym (lead-kind ∙ rw (eq-eqb (t .kind (t .count n)) 1 e))
+      module _ {node : ℕ} (l : mount < t .mounts) (d : node ≡ t .count n) where
+        pub lead-node : t .nodes ≤ node → Dangling ≡ linkLead t n
+        unfolding linkLead
+        lead-node h = rw (← k, eq-eqb kind 4 four, ← m, lt-ltb mount (t .mounts) l, ← d, le-ltb node (t .nodes) h)
 
-      pub lead-file : t .kind (t .count n) ≡ 2 → Settled ≡ linkLead t n
-      lead-file e = sym (lead-kind ∙ rw e)
+        module _ {its : ℕ} (h : node < t .nodes) (i : its ≡ t .kind node) where
+          lead-kind : linkLead t n ≡ byKind its (Into mount node) Settled Dangling Dangling Dangling
+          unfolding linkLead
+          lead-kind = rw (← k, eq-eqb kind 4 four, ← m, lt-ltb mount (t .mounts) l, ← d, lt-ltb node (t .nodes) h, ← i)
 
-      pub lead-link : (t .kind (t .count n) ≡ 1 → ⊥) → (t .kind (t .count n) ≡ 2 → ⊥) → Dangling ≡ linkLead t n
-      lead-link e f =
-          let d = t .kind (t .count n) in
-          sym (lead-kind ∙ rw (ne-eqb d 1 e, ne-eqb d 2 f) (by (eqb d 3) (eqb d 4)))
-        where
-          by : (three four : Bool) → cond three Dangling (cond four Dangling Dangling) ≡ Dangling
-          by true four = refl
-          by false true = refl
-          by false false = refl
+          pub lead-directory : its ≡ 1 → Into mount node ≡ linkLead t n
+          lead-directory e = sym (lead-kind ∙ rw e)
+
+          pub lead-file : its ≡ 2 → Settled ≡ linkLead t n
+          lead-file e = sym (lead-kind ∙ rw e)
+
+          pub lead-link : (its ≡ 1 → ⊥) → (its ≡ 2 → ⊥) → Dangling ≡ linkLead t n
+          lead-link e f = sym (lead-kind ∙ rw (ne-eqb its 1 e, ne-eqb its 2 f) (by (eqb its 3) (eqb its 4)))
+            where
+              by : (three four : Bool) → cond three Dangling (cond four Dangling Dangling) ≡ Dangling
+              by true four = refl
+              by false true = refl
+              by false false = refl
 
   -- rule 7 is what a magic link's lead keeps
   pub link-keeps : (n : ℕ) → magicTargetHolds t n ≡ keeps t (linkLead t n)

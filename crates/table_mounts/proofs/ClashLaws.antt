@@ -1,5 +1,5 @@
 -- Laws of points that mounts share, and of the bytes that tell which are taken. Assumes nothing.
-use Prim.Native.Nat.{ℕ, _+_, _-_, _*_, _%_, _≤_, _<_}
+use Prim.Native.Nat.{ℕ, _+_, _-_, _*_, _%_, _^_, _≤_, _<_}
 use mathlib.Core.Bool.{Bool, true, false, _&&_}
 use mathlib.Core.List.{List}
 use mathlib.Core.Path.{_≡_, refl, sym, ap, ap₂, _∙_}
@@ -12,7 +12,8 @@ use lib.Seq.{getD-set-same, getD-set-other}
 use Rattle.model.specs.Bytes.{find, isSome}
 use Rattle.model.specs.Tree.{mountParentIn, mountPointIn}
 use Rattle.model.specs.TableCheck.{sharesPoint}
-use Rattle.laws.proofs.ByteLaws.{find-absent}
+use Rattle.laws.proofs.ByteLaws.{find-absent, Finds, finds-here, finds-on, finds-none}
+use Rattle.laws.proofs.StringLaws.{packed-same, packed-other}
 use Rattle.parts.specs.Searches.{foundOr}
 use Rattle.parts.proofs.FoundLaws.{FirstFrom}
 use Rattle.table_mounts.specs.Clashes.{uncounted, slotOf, Noted}
@@ -22,6 +23,36 @@ abbrev pub ClashFrom : List ℕ → ℕ → ℕ → Type 0
 ClashFrom mounts end m =
     let shares : ℕ → Bool = λ k. sharesPoint (uncounted mounts) k in
     FirstFrom shares end (foundOr end (find shares 1 (end - 1))) m
+
+-- A loop over the mounts before mount m stands at k: m shares its point, which is packed into one number, if it does with one from k on.
+abbrev samePoint : List ℕ → ℕ → ℕ → Bool
+samePoint s m k = eqb (mountParentIn s k) (mountParentIn s m) && eqb (mountPointIn s k) (mountPointIn s m)
+
+pub record SharesFrom (s : List ℕ) (m wanted k : ℕ) : Type 0 where
+  pub is : wanted ≡ mountParentIn s m + 65536 * mountPointIn s m
+  pub small : mountParentIn s m < 2 ^ 16
+  pub finds : Finds (samePoint s m) m (find (samePoint s m) 1 (m - 1)) k
+
+pub shares-start : (s : List ℕ) (m : ℕ) {wanted : ℕ} → wanted ≡ mountParentIn s m + 65536 * mountPointIn s m → mountParentIn s m < 2 ^ 16
+    → SharesFrom s m wanted 1
+shares-start s m e h = record { is = e; small = h; finds = record { from-here = refl } }
+
+module _ {s : List ℕ} {m wanted k : ℕ} (loop : SharesFrom s m wanted k) where
+  module _ {packed : ℕ} (h : k < m) (e : packed ≡ mountParentIn s k + 65536 * mountPointIn s k) where
+    pub shares-here : mountParentIn s k < 2 ^ 16 → packed ≡ wanted → true ≡ sharesPoint (uncounted s) m
+    unfolding sharesPoint
+    shares-here l f = ap isSome (finds-here (loop .finds) h (packed-same _ _ _ _ l (loop .small) (sym e ∙ f ∙ loop .is)))
+
+    pub shares-on : (packed ≡ wanted → ⊥) → SharesFrom s m wanted (k + 1)
+    shares-on f = record {
+      is = loop .is;
+      small = loop .small;
+      finds = finds-on (loop .finds) h (packed-other _ _ _ _ (λ g. f (e ∙ g ∙ sym (loop .is))));
+    }
+
+  pub shares-none : m ≤ k → false ≡ sharesPoint (uncounted s) m
+  unfolding sharesPoint
+  shares-none h = ap isSome (finds-none (loop .finds) h)
 
 -- before any other mount
 pub noted-none : (mounts points : List ℕ) → 1024 ≤ length points → Noted mounts 1 points

@@ -1,1 +1,1 @@
-mod BodyLaws
+mod NodeLaws

@@ -1,9 +1,10 @@
 -- Laws of records whose parts hold a barred byte, of the first of them, and of how long their parts are together. Assumes nothing.
-use Prim.Native.Nat.{ℕ, zero, suc, _+_, _-_, _*_, _/_, _≤_, _<_}
+use Prim.Native.Nat.{ℕ, zero, suc, _+_, _-_, _*_, _/_, _^_, _≤_, _<_}
 use mathlib.Core.Bool.{Bool, true, false, cond, not, true≢false}
 use mathlib.Core.List.{List}
 use mathlib.Core.Logic.{_⊎_, inl, inr, ⊎-elim}
 use mathlib.Core.Path.{_≡_, refl, sym, ap, ap₂, _∙_}
+use native.Mathlib.Numerals.{add-one}
 use native.Mathlib.Omega.{arith}
 use borrow.Author.Tests.{lt-ltb, le-ltb, le-leb, lt-leb, leb-true, not-true}
 use lib.Dec.{leb}
@@ -12,8 +13,8 @@ use Rattle.model.specs.Bytes.{part, contains, find}
 use Rattle.model.specs.TableCheck.{sumBelow}
 use Rattle.parts.specs.Searches.{foundOr}
 use Rattle.parts.proofs.FoundLaws.{found, FirstFrom}
-use Rattle.strings.proofs.PartLaws.{neither, not-in-part}
-use Rattle.laws.proofs.Cases.{below-or, both}
+use Rattle.strings.proofs.PartLaws.{not-in-part}
+use Rattle.laws.proofs.Cases.{below-or, both, neither}
 use Rattle.text_marks.specs.Barred.{holdsBarred}
 use Rattle.table_texts.specs.Barred.{recordSize, partStart, partLength, recordBarred, firstBarred, fewRecords, sureRecords, seenClean, longerThan, isMarked}
 
@@ -90,25 +91,32 @@ sum-grows f k n h =
     let e : (n - k) + k ≡ n = omega arith in
     rw e at (sum-more f k (n - k))
 
--- the sum of the parts before, and the next part
-pub sum-next : (names : Bool) (records : List ℕ) (k sum more : ℕ) → sum ≡ sumBelow (λ i. partLength names records i) k
-    → more ≡ partLength names records k → sum + more ≡ sumBelow (λ i. partLength names records i) (k + 1)
-unfolding sumBelow
-sum-next names records k sum more e f =
-    let g : k + 1 ≡ suc k = omega arith in
-    rw g (ap₂ _+_ e f)
+-- A loop adds up the parts, and stands at k: so far the sum is no higher than the limit.
+pub record SumTo (names : Bool) (records : List ℕ) (count limit sum k : ℕ) : Type 0 where
+  pub within : k ≤ count
+  pub small : sum ≤ 4294967296 * k
+  pub low : sum ≤ limit
+  pub is : sum ≡ sumBelow (λ i. partLength names records i) k
 
--- past the limit already, or not past it at the end
-module _ (names : Bool) (records : List ℕ) (count limit k sum : ℕ) where
-  pub longer-here : k ≤ count → sum ≡ sumBelow (λ i. partLength names records i) k → limit < sum → longerThan names records count limit ≡ true
-  unfolding longerThan
-  longer-here h e l = lt-ltb limit _ (omega (arith, sum-grows (λ i. partLength names records i) k count h))
+module _ {names : Bool} {records : List ℕ} {count limit sum k : ℕ} (loop : SumTo names records count limit sum k) where
+  -- with the next part
+  module _ {more : ℕ} (h : k < count) (e : more ≡ partLength names records k) where
+    sum-next : sum + more ≡ sumBelow (λ i. partLength names records i) (k + 1)
+    unfolding sumBelow
+    sum-next = rw (add-one k) (ap₂ _+_ (loop .is) e)
 
-  pub longer-not : k ≡ count → sum ≡ sumBelow (λ i. partLength names records i) k → sum ≤ limit → longerThan names records count limit ≡ false
+    pub longer-here : limit < sum + more → true ≡ longerThan names records count limit
+    unfolding longerThan
+    longer-here l = sym (lt-ltb limit _ (omega (arith, sum-next, sum-grows (λ i. partLength names records i) (k + 1) count (omega arith))))
+
+    pub longer-on : more < 2 ^ 32 → sum + more ≤ limit → SumTo names records count limit (sum + more) (k + 1)
+    longer-on u l = record { within = omega arith; small = omega (arith, loop .small); low = l; is = sum-next }
+
+  pub longer-not : count ≤ k → false ≡ longerThan names records count limit
   unfolding longerThan
-  longer-not h e l =
-      let g : sum ≡ sumBelow (λ i. partLength names records i) count = e ∙ ap (sumBelow (λ i. partLength names records i)) h in
-      le-ltb limit _ (omega arith)
+  longer-not h =
+      let e : k ≡ count = omega (arith, loop .within) in
+      sym (le-ltb limit _ (omega (arith, loop .low, rw e at (loop .is))))
 
 -- a record lies where all lie
 pub record-fits : (names : Bool) (k count size : ℕ) → recordSize names * count ≤ size → k < count → recordSize names * k + recordSize names ≤ size

@@ -86,7 +86,7 @@ fn marked_barred(
     if text.len() < end {
         return false;
     }
-    next_barred(text, names, marks, behind, at) < end
+    next_barred(marks, behind, at) < end
 }
 
 fn first_marked(

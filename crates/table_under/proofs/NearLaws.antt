@@ -116,16 +116,16 @@ module _ {N : ℕ} (near rows : List ℕ) (n : ℕ) {r read : ℕ} (is : read �
       rw (lt-ltb r N (omega arith)) (ap₂ (bitOf rows) is-row (ap (λ (k : ℕ). k - 1) (is-number ∙ ap (λ (k : ℕ). getD near k 0) is)))
 
 -- a root that is among the nodes has a number
-pub own-some : {N M : ℕ} {root : ℕ → ℕ} {end : ℕ} {s : Chart} → Numbered N M root end s → (m r : ℕ) → r ≡ root m → m < M → r < N → 0 < getD (s .near) r 0
-own-some {s = s} numbered m r is l h = omega (arith, numbered .own m l (omega arith) .0, ap (λ (k : ℕ). getD (s .near) k 0) is)
+pub own-some : {N M : ℕ} {root : ℕ → ℕ} {end : ℕ} {s : Chart} → Numbered N M root end s → (m : ℕ) {r : ℕ} → r ≡ root m → m < M → r < N → 0 < getD (s .near) r 0
+own-some {s = s} numbered m is l h = omega (arith, numbered .own m l (omega arith) .0, ap (λ (k : ℕ). getD (s .near) k 0) is)
 
 -- there is room for a node's row
-pub own-room : (n : ℕ) (s : Chart) → Fitting s → 4 * getD (s .near) n 0 + 4 ≤ length (s .rows)
-own-room n s fitting = omega (arith, fitting .few n, fitting .wide)
+pub own-room : (n : ℕ) {s : Chart} → Fitting s → 4 * getD (s .near) n 0 + 4 ≤ length (s .rows)
+own-room n fitting = omega (arith, fitting .few n, fitting .wide)
 
 -- and for the row above
-module _ (parent : ℕ → ℕ) (n : ℕ) (s : Chart) (fitting : Fitting s) where
-  pub above-few : rowAbove parent (s .near) n ≤ 256
+module _ (parent : ℕ → ℕ) (n : ℕ) {s : Chart} (fitting : Fitting s) where
+  above-few : rowAbove parent (s .near) n ≤ 256
   unfolding rowAbove
   above-few = cond-cases (λ (v : ℕ). v ≤ 256) (ltb (parent n) n) _ 0 (λ e. fitting .few (parent n)) (λ e. omega arith)
 
@@ -246,7 +246,7 @@ module _ (t : Tree) (directories : DirectoriesHold t) (n : ℕ) (s : Chart) (cha
         record {
           numbered = record {
             room = rw (length-set (s .near) n above) (kept .room);
-            fitting = fitting-on (t .parent) n s (kept .fitting) inside;
+            fitting = fitting-on (t .parent) n (kept .fitting) inside;
             low = λ k. set-cases (λ (v : ℕ). 0 < v → root (v - 1) ≤ k) (s .near) n k above inside (λ e some. omega (arith, above-lower some)) (kept .low k);
             fresh = λ k l. subst (λ (v : ℕ). 0 < v → root (v - 1) ≡ k) (sym (number-other k (λ e. omega arith))) (kept .fresh k (omega arith));
             own = λ m l h. subst (λ (v : ℕ). (0 < v) × (root (v - 1) ≡ root m)) (sym (number-other (root m) (not-root m l h))) (kept .own m l h);
@@ -264,7 +264,7 @@ module _ (t : Tree) (directories : DirectoriesHold t) (n : ℕ) (s : Chart) (cha
     own-root = charted .numbered .fresh n (le-refl n) some
 
     room : 4 * number n + 4 ≤ length (s .rows)
-    room = own-room n s (charted .numbered .fitting)
+    room = own-room n (charted .numbered .fitting)
 
     -- no lower node has the root's number, nor has the node above
     above-apart : above ≡ number n → ⊥
@@ -309,7 +309,7 @@ module _ (t : Tree) (directories : DirectoriesHold t) (n : ℕ) (s : Chart) (cha
         record {
           numbered = record {
             room = kept .room;
-            fitting = fitting-root (t .parent) n s (kept .fitting);
+            fitting = fitting-root (t .parent) n (kept .fitting);
             low = kept .low;
             fresh = λ k l. kept .fresh k (omega arith);
             own = kept .own;

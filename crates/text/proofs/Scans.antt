@@ -2,7 +2,7 @@
 use Prim.Native.Nat.{ℕ, suc, _+_, _-_, _≤_, _<_}
 use mathlib.Core.Bool.{false}
 use mathlib.Core.List.{List, [], _∷_}
-use mathlib.Core.Path.{_≡_, refl}
+use mathlib.Core.Path.{_≡_, refl, sym, _∙_}
 use native.Mathlib.Omega.{arith}
 use lib.ListN.{length, getD, drop-of-length-le}
 use borrow.Author.Tests.{eq-eqb, ne-eqb}
@@ -10,32 +10,33 @@ use Rattle.model.specs.Path.{isSlash, upToSlash, absolute, endsInSlash}
 use Rattle.laws.proofs.StringLaws.{next}
 use Rattle.text.specs.Positions.{slashes, pastSlashes, componentEnd}
 
-module _ (s : List ℕ) (at : ℕ) where
+-- A loop that reads a text from `at` on, byte by byte, and stands at k.
+module _ (s : List ℕ) (at k : ℕ) where
   -- a component ends at a slash, goes on at any other byte, and ends where the text does
-  pub end-here : at < length s → getD s at 0 ≡ 47 → componentEnd s at ≡ at
+  pub end-here : k < length s → getD s k 0 ≡ 47 → componentEnd s at ≡ componentEnd s k → k ≡ componentEnd s at
   unfolding upToSlash
-  end-here h e = rw (next s at h, eq-eqb (getD s at 0) 47 e) (omega arith)
+  end-here h e seen = sym (seen ∙ rw (next s k h, eq-eqb (getD s k 0) 47 e) (omega arith))
 
-  pub end-on : at < length s → (getD s at 0 ≡ 47 → ⊥) → componentEnd s at ≡ componentEnd s (at + 1)
+  pub end-on : k < length s → (getD s k 0 ≡ 47 → ⊥) → componentEnd s at ≡ componentEnd s k → componentEnd s at ≡ componentEnd s (k + 1)
   unfolding upToSlash
-  end-on h e = rw (next s at h, ne-eqb (getD s at 0) 47 e) (omega arith)
+  end-on h e seen = seen ∙ rw (next s k h, ne-eqb (getD s k 0) 47 e) (omega arith)
 
-  pub end-done : length s ≤ at → componentEnd s at ≡ at
+  pub end-done : length s ≤ k → componentEnd s at ≡ componentEnd s k → k ≡ componentEnd s at
   unfolding upToSlash
-  end-done h = rw (drop-of-length-le s h) (omega arith)
+  end-done h seen = sym (seen ∙ rw (drop-of-length-le s h) (omega arith))
 
   -- slashes go on at a slash, and end at any other byte and where the text does
-  pub past-on : at < length s → getD s at 0 ≡ 47 → pastSlashes s at ≡ pastSlashes s (at + 1)
+  pub past-on : k < length s → getD s k 0 ≡ 47 → pastSlashes s at ≡ pastSlashes s k → pastSlashes s at ≡ pastSlashes s (k + 1)
   unfolding slashes
-  past-on h e = rw (next s at h, eq-eqb (getD s at 0) 47 e) (omega arith)
+  past-on h e seen = seen ∙ rw (next s k h, eq-eqb (getD s k 0) 47 e) (omega arith)
 
-  pub past-here : at < length s → (getD s at 0 ≡ 47 → ⊥) → pastSlashes s at ≡ at
+  pub past-here : k < length s → (getD s k 0 ≡ 47 → ⊥) → pastSlashes s at ≡ pastSlashes s k → k ≡ pastSlashes s at
   unfolding slashes
-  past-here h e = rw (next s at h, ne-eqb (getD s at 0) 47 e) (omega arith)
+  past-here h e seen = sym (seen ∙ rw (next s k h, ne-eqb (getD s k 0) 47 e) (omega arith))
 
-  pub past-done : length s ≤ at → pastSlashes s at ≡ at
+  pub past-done : length s ≤ k → pastSlashes s at ≡ pastSlashes s k → k ≡ pastSlashes s at
   unfolding slashes
-  past-done h = rw (drop-of-length-le s h) (omega arith)
+  past-done h seen = sym (seen ∙ rw (drop-of-length-le s h) (omega arith))
 
 -- the first byte, and the last
 pub empty-absolute : (s : List ℕ) → length s ≡ 0 → absolute s ≡ false

@@ -1,17 +1,21 @@
 -- Laws of a block's marks: what more bytes add to them, how large they are, and what they are of bytes that do not stand in the block.
 -- Assumes nothing.
-use Prim.Native.Nat.{ℕ, zero, suc, _+_, _-_, _*_, _^_, _≤_, _<_}
-use mathlib.Core.Bool.{Bool, true, false, cond, _||_, or-true, or-false, true≢false}
+use Prim.Native.Nat.{ℕ, zero, suc, _+_, _-_, _*_, _/_, _^_, _≤_, _<_}
+use mathlib.Core.Bool.{Bool, true, false, cond, not, _||_, or-false}
 use mathlib.Core.List.{List}
 use mathlib.Core.Path.{_≡_, refl, sym, ap₂, _∙_}
 use native.Mathlib.Nat.{zero-add, add-zero, suc-add, pow-suc}
 use native.Mathlib.Omega.{arith}
-use borrow.Author.Tests.{eq-eqb, ne-eqb, eqb-true, lt-ltb, le-ltb}
+use borrow.Author.Tests.{eqb-true, lt-ltb, le-ltb, not-true, not-false}
 use lib.Dec.{eqb}
 use lib.ListN.{length, getD}
 use lib.Pow.{pow-mono}
+use mir.Syntax.{w64}
+use mir.Val.{Fits}
 use Rattle.model.specs.Bytes.{part, contains}
-use Rattle.laws.proofs.StringLaws.{next}
+use Rattle.laws.proofs.Cases.{neither}
+use Rattle.laws.proofs.PartLaws.{part-get, part-whole}
+use Rattle.laws.proofs.StringLaws.{next, Seen, seen-hit, seen-miss, seen-all}
 use Rattle.text_marks.specs.Barred.{barred}
 use Rattle.text_marks.specs.Marks.{digit, marksOf, blockEnd, blockMarks}
 
@@ -42,14 +46,6 @@ module _ (test : ℕ → Bool) (text : List ℕ) where
   marks-bound at (suc count) =
       rw (pow-suc 2 count) (omega (arith, digit-le (test (getD text at 0)), marks-bound (at + 1) count))
 
-  -- there is room for eight marks more
-  pub room-eight : (at count : ℕ) → count ≤ 56 → 256 * marksOf test text at count + 255 < 2 ^ 64
-  room-eight at count h = omega (arith, marks-bound at count, pow-mono {i = count} {j = 56} h)
-
-  -- and for one more
-  pub room-one : (at count : ℕ) → count ≤ 63 → 2 * marksOf test text at count + 1 < 2 ^ 64
-  room-one at count h = omega (arith, marks-bound at count, pow-mono {i = count} {j = 63} h)
-
   -- eight bytes, each with its weight
   pub eight-weights : (at : ℕ)
       → cond (test (getD text at 0)) 1 0 + cond (test (getD text (at + 1) 0)) 2 0 + cond (test (getD text (at + 2) 0)) 4 0
@@ -63,27 +59,77 @@ module _ (test : ℕ → Bool) (text : List ℕ) where
       let a : (i : ℕ) → at + i + 1 ≡ at + suc i = λ i. omega arith in
       rw (a 1, a 2, a 3, a 4, a 5, a 6) (omega (arith, w 1 2, w 2 4, w 3 8, w 4 16, w 5 32, w 6 64, w 7 128))
 
-  -- eight bytes more, before those that are marked
-  pub eight-more : (at i : ℕ) {marks eight : ℕ} → 8 ≤ i → i ≤ 64 → marks ≡ marksOf test text (at + i) (64 - i)
-      → eight ≡ marksOf test text (at + (i - 8)) 8 → 256 * marks + eight ≡ marksOf test text (at + (i - 8)) (64 - (i - 8))
-  eight-more at i l u e f =
-      let n : 64 - (i - 8) ≡ 8 + (64 - i) = omega arith in
-      let m : at + (i - 8) + 8 ≡ at + i = omega arith in
-      rw (n, marks-split 8 (64 - i) (at + (i - 8)), m) (omega arith)
+-- A loop marks a whole block from its end on, eight bytes at a time, and stands at its byte i.
+pub record EightsFrom (test : ℕ → Bool) (text : List ℕ) (at i marks : ℕ) : Type 0 where
+  pub within : i ≤ 64
+  pub eights : i ≡ 8 * (i / 8)
+  pub are : marks ≡ marksOf test text (at + i) (64 - i)
 
-  -- one byte more, before those that are marked
-  pub one-more : (i : ℕ) {marks : ℕ} → 0 < i → i ≤ length text → marks ≡ marksOf test text i (length text - i)
-      → 2 * marks + digit (test (getD text (i - 1) 0)) ≡ marksOf test text (i - 1) (length text - (i - 1))
+module _ {test : ℕ → Bool} {text : List ℕ} {at i marks : ℕ} (marked : EightsFrom test text at i marks) where
+  -- there is room for eight marks more
+  room-eight : 0 < i → 256 * marks + 255 < 2 ^ 64
+  room-eight l =
+      let few : 64 - i ≤ 56 = omega (arith, marked .eights) in
+      omega (arith, marked .are, marks-bound test text (at + i) (64 - i), pow-mono {i = 64 - i} {j = 56} few)
+
+  pub eight-mul : 0 < i → Fits w64 (256 * marks)
+  eight-mul l = omega (arith, room-eight l)
+
+  pub eight-add : {eight : ℕ} → 0 < i → eight < 256 → Fits w64 (256 * marks + eight)
+  eight-add l h = omega (arith, room-eight l)
+
+  pub eight-more : {eight : ℕ} → 0 < i → eight ≡ marksOf test text (at + (i - 8)) 8 → EightsFrom test text at (i - 8) (256 * marks + eight)
+  eight-more l e =
+      let n : 64 - (i - 8) ≡ 8 + (64 - i) = omega (arith, marked .within, marked .eights) in
+      let m : at + (i - 8) + 8 ≡ at + i = omega (arith, marked .eights) in
+      record {
+        within = omega (arith, marked .within);
+        eights = omega (arith, marked .eights);
+        are = rw (n, marks-split test text 8 (64 - i) (at + (i - 8)), m) (omega (arith, marked .are));
+      }
+
+  pub eight-all : i ≤ 0 → marks ≡ marksOf test text at 64
+  eight-all l = let e : i ≡ 0 = omega arith in marked .are ∙ rw (e, add-zero at)
+
+-- A loop marks a text from its end on, byte by byte, and stands at i.
+pub record MarksFrom (test : ℕ → Bool) (text : List ℕ) (i marks : ℕ) : Type 0 where
+  pub within : i ≤ length text
+  pub are : marks ≡ marksOf test text i (length text - i)
+
+-- no bytes, no marks
+pub marks-start : (test : ℕ → Bool) (text : List ℕ) → MarksFrom test text (length text) 0
+unfolding marksOf
+marks-start test text = let n : length text - length text ≡ 0 = omega arith in record { within = omega arith; are = rw n }
+
+module _ {test : ℕ → Bool} {text : List ℕ} {i marks : ℕ} (marked : MarksFrom test text i marks) where
+  -- there is room for one more, in a last block that starts at a position before
+  room-one : (at : ℕ) → length text < at + 64 → at < i → 2 * marks + 1 < 2 ^ 64
+  room-one at h l =
+      let few : length text - i ≤ 63 = omega arith in
+      omega (arith, marked .are, marks-bound test text i (length text - i), pow-mono {i = length text - i} {j = 63} few)
+
+  pub one-mul : (at : ℕ) → length text < at + 64 → at < i → Fits w64 (2 * marks)
+  one-mul at h l = omega (arith, room-one at h l)
+
+  pub one-add : (at : ℕ) → length text < at + 64 → at < i → Fits w64 (2 * marks + 1)
+  one-add at h l = omega (arith, room-one at h l)
+
+  -- the byte before, by what it was told to be
+  one-more : {told : Bool} → 0 < i → told ≡ test (getD text (i - 1) 0) → MarksFrom test text (i - 1) (2 * marks + digit told)
   unfolding marksOf
-  one-more i l u e =
-      let n : length text - (i - 1) ≡ suc (length text - i) = omega arith in
+  one-more l e =
+      let n : length text - (i - 1) ≡ suc (length text - i) = omega (arith, marked .within) in
       let m : i - 1 + 1 ≡ i = omega arith in
-      rw (n, m) (omega arith)
+      record { within = omega (arith, marked .within); are = rw (e, n, m) (omega (arith, marked .are)) }
 
-  -- no bytes, no marks
-  pub none-left : 0 ≡ marksOf test text (length text) (length text - length text)
-  unfolding marksOf
-  none-left = let n : length text - length text ≡ 0 = omega arith in rw n
+  pub one-set : {told : Bool} {at : ℕ} → at < i → told ≡ test (getD text (i - 1) 0) → told ≡ true → MarksFrom test text (i - 1) (2 * marks + 1)
+  one-set l e f = rw f at (one-more (omega arith) e)
+
+  pub one-clear : {told : Bool} {at : ℕ} → at < i → told ≡ test (getD text (i - 1) 0) → told ≡ false → MarksFrom test text (i - 1) (2 * marks)
+  one-clear l e f = let z : 2 * marks + 0 ≡ 2 * marks = omega arith in rw (f, z) at (one-more (omega arith) e)
+
+  pub one-all : (at : ℕ) → at ≤ i → i ≤ at → marks ≡ marksOf test text at (length text - at)
+  one-all at l u = let e : i ≡ at = omega arith in marked .are ∙ rw e
 
 -- marks that are added
 marks-sum : (p q r : ℕ → Bool) → ((x : ℕ) → digit (p x) + digit (q x) ≡ digit (r x)) → (text : List ℕ) (at count : ℕ)
@@ -114,11 +160,6 @@ pub marks-bodies : (text : List ℕ) (at count : ℕ) → marksOf (λ x. eqb x 0
 unfolding barred
 marks-bodies = marks-ext (λ x. eqb x 0) (barred false) (λ x. sym (or-false (eqb x 0)))
 
--- of a disjunction that fails, both parts do
-neither : (a b : Bool) → (a || b) ≡ false → (a ≡ false) × (b ≡ false)
-neither false b e = (refl, e)
-neither true b e = absurd (true≢false e)
-
 module _ (byte : ℕ) (text : List ℕ) where
   -- whether a byte stands in a part, by the part's first one
   contains-first : (at count : ℕ) → at < length text
@@ -135,55 +176,40 @@ module _ (byte : ℕ) (text : List ℕ) where
       let n = neither (eqb (getD text at 0) byte) (contains byte (part text (at + 1) count)) (sym (contains-first at count (omega arith)) ∙ e) in
       rw (n .0, marks-none (at + 1) count (omega arith) (n .1))
 
-  -- what is known of a block's bytes before one of them, and of that one
-  module _ (at width i : ℕ) (found : Bool) (inside : at + width ≤ length text)
-      (seen : contains byte (part text at width) ≡ found || contains byte (part text (at + i) (width - i))) where
-    -- its first byte and the later ones
-    block-next : i < width → contains byte (part text (at + i) (width - i))
-        ≡ eqb (getD text (at + i) 0) byte || contains byte (part text (at + (i + 1)) (width - (i + 1)))
-    block-next l =
-        let n : width - i ≡ suc (width - (i + 1)) = omega arith in
-        let m : at + (i + 1) ≡ at + i + 1 = omega arith in
-        rw (n, m) (contains-first (at + i) (width - (i + 1)) (omega arith))
+  -- a loop looks for it in a part, and stands at i
+  module _ (at width : ℕ) (inside : at + width ≤ length text) {found : Bool} {i : ℕ} (seen : Seen byte (part text at width) found i) where
+    pub block-hit : {after : Bool} → i < width → getD text (at + i) 0 ≡ byte → after ≡ true → Seen byte (part text at width) after (i + 1)
+    block-hit h e = seen-hit seen (omega (arith, part-whole text at width inside)) (part-get text at width i h ∙ e)
 
-    -- the byte is found
-    pub block-hit : i < width → getD text (at + i) 0 ≡ byte → contains byte (part text at width) ≡ true
-    block-hit l e = seen ∙ rw (block-next l, eq-eqb (getD text (at + i) 0) byte e) (or-true found)
+    pub block-miss : {after : Bool} → i < width → (getD text (at + i) 0 ≡ byte → ⊥) → after ≡ found → Seen byte (part text at width) after (i + 1)
+    block-miss h e = seen-miss seen (omega (arith, part-whole text at width inside)) (λ f. e (sym (part-get text at width i h) ∙ f))
 
-    -- it is another one
-    pub block-miss : i < width → (getD text (at + i) 0 ≡ byte → ⊥)
-        → contains byte (part text at width) ≡ found || contains byte (part text (at + (i + 1)) (width - (i + 1)))
-    block-miss l e = seen ∙ rw (block-next l, ne-eqb (getD text (at + i) 0) byte e)
-
-    -- no byte is left
     pub block-all : width ≤ i → found ≡ contains byte (part text at width)
-    unfolding part contains
-    block-all l =
-        let n : width - i ≡ 0 = omega arith in
-        sym (seen ∙ rw n (or-false found))
+    block-all h = seen-all seen (omega (arith, part-whole text at width inside))
 
--- the last block ends with the text
-pub ends-short : (text : List ℕ) (at : ℕ) → length text < at + 64 → blockEnd text at ≡ length text
-unfolding blockEnd
-ends-short text at h = rw (lt-ltb (length text) (at + 64) h)
+-- the marks of a block, by the kind of record
+module _ (names : Bool) (text : List ℕ) (at : ℕ) where
+  -- the last block ends with the text
+  pub short-block : {marks : ℕ} → length text < at + 64 → marks ≡ marksOf (barred names) text at (length text - at) → marks ≡ blockMarks names text at
+  unfolding blockEnd
+  short-block h e = e ∙ rw (lt-ltb (length text) (at + 64) h)
 
--- the others are whole
-pub ends-whole : (text : List ℕ) (at : ℕ) → at + 64 ≤ length text → blockEnd text at - at ≡ 64
-unfolding blockEnd
-ends-whole text at h = rw (le-ltb (length text) (at + 64) h) (omega arith)
+  -- the others are whole
+  module _ (h : at + 64 ≤ length text) where
+    ends-whole : blockEnd text at - at ≡ 64
+    unfolding blockEnd
+    ends-whole = rw (le-ltb (length text) (at + 64) h) (omega arith)
 
-module _ (text : List ℕ) (at : ℕ) where
-  -- a whole block of bodies: its zero bytes are marked
-  pub whole-bodies : {names : Bool} {zeros : ℕ} → at + 64 ≤ length text → names ≡ false → zeros ≡ marksOf (λ x. eqb x 0) text at 64
-      → zeros ≡ blockMarks names text at
-  whole-bodies h n e = e ∙ marks-bodies text at 64 ∙ rw (n, ends-whole text at h)
+    -- of bodies the zero bytes are marked
+    pub whole-bodies : {zeros : ℕ} → not names ≡ true → zeros ≡ marksOf (λ x. eqb x 0) text at 64 → zeros ≡ blockMarks names text at
+    whole-bodies n e = e ∙ marks-bodies text at 64 ∙ rw (not-true names n, ends-whole)
 
-  -- and one of names: its slashes too
-  pub whole-names : {names : Bool} {zeros slashes : ℕ} → at + 64 ≤ length text → names ≡ true → zeros ≡ marksOf (λ x. eqb x 0) text at 64
-      → slashes ≡ marksOf (λ x. eqb x 47) text at 64 → zeros + slashes ≡ blockMarks names text at
-  whole-names h n e f = ap₂ (λ (x y : ℕ). x + y) e f ∙ marks-names text at 64 ∙ rw (n, ends-whole text at h)
+    -- and of names the slashes too
+    pub whole-names : {zeros slashes : ℕ} → not names ≡ false → zeros ≡ marksOf (λ x. eqb x 0) text at 64
+        → slashes ≡ marksOf (λ x. eqb x 47) text at 64 → zeros + slashes ≡ blockMarks names text at
+    whole-names n e f = ap₂ (λ (x y : ℕ). x + y) e f ∙ marks-names text at 64 ∙ rw (not-false names n, ends-whole)
 
-  -- both fit into one number
-  pub whole-room : {zeros slashes : ℕ} → zeros ≡ marksOf (λ x. eqb x 0) text at 64 → slashes ≡ marksOf (λ x. eqb x 47) text at 64
-      → zeros + slashes < 2 ^ 64
-  whole-room e f = omega (arith, marks-names text at 64, marks-bound (barred true) text at 64)
+-- both fit into one number
+pub whole-room : (text : List ℕ) (at : ℕ) {zeros slashes : ℕ} → zeros ≡ marksOf (λ x. eqb x 0) text at 64 → slashes ≡ marksOf (λ x. eqb x 47) text at 64
+    → Fits w64 (zeros + slashes)
+whole-room text at e f = omega (arith, marks-names text at 64, marks-bound (barred true) text at 64)

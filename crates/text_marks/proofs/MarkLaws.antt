@@ -1,12 +1,12 @@
 -- Laws of barred bytes: of a string that holds one, of the first from a position on, and of what a block's marks tell of it. Assumes nothing.
 use Prim.Native.Nat.{ℕ, zero, suc, _+_, _-_, _*_, _/_, _%_, _^_, _≤_, _<_}
-use mathlib.Core.Bool.{Bool, true, false, cond, _&&_, _||_, or-true, true≢false}
+use mathlib.Core.Bool.{Bool, true, false, cond, not, _&&_, _||_, or-true, or-false, true≢false}
 use mathlib.Core.List.{List, [], _∷_}
 use mathlib.Core.Logic.{⊎-elim}
 use mathlib.Core.Path.{_≡_, refl, sym, ap, ap₂, _∙_, subst}
 use native.Mathlib.Nat.{div-one, eq-or-lt-of-le, pow-zero, zero-add}
 use native.Mathlib.Omega.{arith}
-use borrow.Author.Tests.{eqb-true, eqb-false, lt-ltb, le-ltb, ltb-true, ltb-false}
+use borrow.Author.Tests.{eqb-true, eqb-false, lt-ltb, le-ltb, ltb-true, ltb-false, not-true, not-false}
 use lib.Count.{trailingZeros, under}
 use lib.Dec.{eqb, ltb}
 use lib.ListN.{length, getD, take, drop, set, length-drop}
@@ -43,17 +43,31 @@ neither : (names : Bool) → (false || (names && false)) ≡ false
 neither true = refl
 neither false = refl
 
--- what is known of the bytes before a position, and of the one at it
+-- a loop looks for a barred byte in a string, and stands at i
 module _ (names : Bool) (s : List ℕ) (i : ℕ) (seen : holdsBarred names s ≡ holdsBarred names (drop i s)) where
-  pub barred-hit : i < length s → barred names (getD s i 0) ≡ true → holdsBarred names s ≡ true
-  barred-hit h e = seen ∙ holds-next names s i h ∙ ap (λ (b : Bool). b || holdsBarred names (drop (i + 1) s)) e
+  -- by what the byte at i was told to be
+  barred-told : {told : Bool} → i < length s → told ≡ barred names (getD s i 0) → holdsBarred names s ≡ (told || holdsBarred names (drop (i + 1) s))
+  barred-told h e = rw e (seen ∙ holds-next names s i h)
 
-  pub barred-miss : i < length s → barred names (getD s i 0) ≡ false → holdsBarred names s ≡ holdsBarred names (drop (i + 1) s)
-  barred-miss h e = seen ∙ holds-next names s i h ∙ ap (λ (b : Bool). b || holdsBarred names (drop (i + 1) s)) e
+  pub barred-hit : {told : Bool} → i < length s → told ≡ barred names (getD s i 0) → told ≡ true → true ≡ holdsBarred names s
+  barred-hit h e f = sym (rw f at (barred-told h e))
 
-  pub barred-none : length s ≤ i → holdsBarred names s ≡ false
+  pub barred-miss : {told : Bool} → i < length s → told ≡ barred names (getD s i 0) → told ≡ false
+      → holdsBarred names s ≡ holdsBarred names (drop (i + 1) s)
+  barred-miss h e f = rw f at (barred-told h e)
+
+  pub barred-none : length s ≤ i → false ≡ holdsBarred names s
   unfolding holdsBarred
-  barred-none h = seen ∙ ap₂ (λ (a b : Bool). a || (names && b)) (contains-end 0 s i h) (contains-end 47 s i h) ∙ neither names
+  barred-none h = sym (seen ∙ ap₂ (λ (a b : Bool). a || (names && b)) (contains-end 0 s i h) (contains-end 47 s i h) ∙ neither names)
+
+-- whether it holds one, by the kind of record
+module _ (names : Bool) (s : List ℕ) {held : Bool} where
+  pub of-bodies : not names ≡ true → held ≡ contains 0 s → held ≡ holdsBarred names s
+  unfolding holdsBarred
+  of-bodies n e = e ∙ sym (rw (not-true names n) (or-false _))
+
+  pub of-names : not names ≡ false → held ≡ holdsBarred true s → held ≡ holdsBarred names s
+  of-names n e = rw (not-false names n) e
 
 take-hit : (names : Bool) (s : List ℕ) (n i : ℕ) → i < n → i < length s → barred names (getD s i 0) ≡ true → holdsBarred names (take n s) ≡ true
 take-hit names [] n i h l e = absurd (omega arith)

@@ -40,3 +40,8 @@ pub record Marked (names : Bool) (text marks behind : List ℕ) : Type 0 where
   pub marks-room : 1024 ≤ length marks
   pub behind-room : 1024 ≤ length behind
   pub all : MarkedFrom names text 0 marks behind
+
+-- the first barred byte from a position on, else the text's end, whichever text it is that has these marks
+abbrev pub NextBarred : List ℕ → List ℕ → ℕ → ℕ → Type 0
+NextBarred marks behind at r =
+    (names : Bool) (text : List ℕ) → Marked names text marks behind → at ≤ length text → r ≡ firstFrom names text at (length text)

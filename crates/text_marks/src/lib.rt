@@ -7,8 +7,7 @@ use crate::blocks::block_marks;
 ghost use mathlib.Core.Path.{_≡_};
 ghost use Prim.Native.Nat.{_*_, _/_, _%_, _≤_, _<_};
 ghost use lib.ListN.{length};
-ghost use Rattle.text_marks.specs.Barred.{firstFrom};
-ghost use Rattle.text_marks.specs.Marks.{firstOf, Marked};
+ghost use Rattle.text_marks.specs.Marks.{firstOf, Marked, NextBarred};
 
 fn first_of(marks: u64, at: usize, behind: usize) -> usize
     requires { ⌜ at ≤ 65536 ⌝ }
@@ -42,10 +41,10 @@ fn wide(k: u16) -> usize
     k as usize
 }
 
-// The first barred byte from a position on, else the text's end.
-pub fn next_barred(text: &[u8], names: bool, marks: &[u64], behind: &[u16], at: usize) -> usize
-    requires { ⌜ Marked names (now text) (now marks) (now behind) × (at ≤ length (now text)) ⌝ }
-    ensures { λ r. ⌜ r ≡ firstFrom names (now (text .entry)) at (length (now (text .entry))) ⌝ }
+// The first barred byte from a position on, else the text's end, of a text that has these marks.
+pub fn next_barred(marks: &[u64], behind: &[u16], at: usize) -> usize
+    requires { ⌜ (at ≤ 65535) × (1024 ≤ length (now marks)) × (1024 ≤ length (now behind)) ⌝ }
+    ensures { λ r. ⌜ NextBarred (now (marks .entry)) (now (behind .entry)) at r ⌝ }
 {
     let b = at / 64;
     first_of(marks[b] >> ((at % 64) as u64), at, wide(behind[b]))

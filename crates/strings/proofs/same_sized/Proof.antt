@@ -8,14 +8,14 @@ use Rattle.strings.proofs.same_sized.Tie as tie
 returns-2 : tie.Need-returns-2
 returns-2 c =
     let d = c .before .before .before .before .before in
-    deciding-same 4 _ _ (λ k. omega (arith, d .before .shared-slice-known .given k)) (λ k. omega (arith, d .shared-slice-known2 .given k)) _ _
-    (c .before .before .deciding-four .ensures) _ _ (c .before .u32-at .ensures .0) (c .u32-at2 .ensures .0) (omega arith) (d .before .before .pre)
+    deciding-same (c .before .before .deciding-four .ensures) (d .before .shared-slice-known .given) (d .shared-slice-known2 .given)
+    (c .before .u32-at .ensures .0) (c .u32-at2 .ensures .0) (omega arith) (d .before .before .pre)
 
 returns-3 : tie.Need-returns-3
 returns-3 c =
     let d = c .before .before .before .before .before in
-    deciding-same 8 _ _ (λ k. omega (arith, d .before .shared-slice-known .given k)) (λ k. omega (arith, d .shared-slice-known2 .given k)) _ _
-    (c .before .before .deciding-eight .ensures) _ _ (c .before .u64-at .ensures .0) (c .u64-at2 .ensures .0) (omega arith) (d .before .before .pre)
+    deciding-same (c .before .before .deciding-eight .ensures) (d .before .shared-slice-known .given) (d .shared-slice-known2 .given)
+    (c .before .u64-at .ensures .0) (c .u64-at2 .ensures .0) (omega arith) (d .before .before .pre)
 
 pub same-sized-spec : {M : Type 1} → statement M
 same-sized-spec =

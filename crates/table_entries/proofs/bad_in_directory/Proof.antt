@@ -1,9 +1,9 @@
 -- `table_entries::bad_in_directory` meets its contract. The loop's invariant: the lowest bad entry of the directory is the lowest from
 -- `e` on, and the name before `e` keeps its sentence. Assumes nothing.
 use borrow.Author.Needs.{needs}
-use Prim.Native.Nat.{ℕ, _+_, _-_, _≤_, _<_}
+use Prim.Native.Nat.{_+_, _-_, _≤_, _<_}
 use mathlib.Core.Bool.{true, not}
-use mathlib.Core.Path.{_≡_, ap, ap₂, _∙_, sym, subst}
+use mathlib.Core.Path.{_≡_, ap, ap₂, _∙_, sym}
 use native.Mathlib.Nat.{lt-irrefl}
 use native.Mathlib.Omega.{arith}
 use borrow.Author.Tests.{not-false}
@@ -11,7 +11,7 @@ use denote.Ref.{now}
 use Rattle.model.specs.Tree.{firstIn, countIn}
 use Rattle.model.specs.TableCheck.{nameHolds, entryHolds}
 use Rattle.laws.proofs.Acceptance.{directory-below}
-use Rattle.laws.proofs.ByteLaws.{find-here, find-on, find-done}
+use Rattle.laws.proofs.ByteLaws.{Finds, finds-here, finds-on, finds-none}
 use Rattle.parts.specs.Parts.{entriesTree}
 use Rattle.parts.specs.Searches.{searchOf}
 use Rattle.table_entries.specs.Ranges.{badIn}
@@ -23,7 +23,7 @@ abbrev Inv-loop : tie.InvT-loop
 Inv-loop nodes entries text c n clean first end e₀ e =
     (first ≡ firstIn nodes n) × (end ≡ first + countIn nodes n) × (first ≤ e) × (e ≤ end)
     × (first < e → nameHolds (entriesTree c nodes entries text) (e - 1) ≡ true)
-    × (badIn (entriesTree c nodes entries text) (firstIn nodes n) (countIn nodes n) ≡ badIn (entriesTree c nodes entries text) e (end - e))
+    × Finds (λ k. not (entryHolds (entriesTree c nodes entries text) k)) end (badIn (entriesTree c nodes entries text) (firstIn nodes n) (countIn nodes n)) e
 
 abbrev μ-loop : tie.MeasureT-loop
 μ-loop nodes entries text c n clean first end e₀ e = end - e
@@ -52,7 +52,7 @@ loop-holds c =
     let f = node-first .ensures .0 in
     let m = c .node-count .ensures .0 in
     let k : node-first .result + c .node-count .result - node-first .result ≡ t .count (a .n) = omega arith in
-    (f, omega arith, omega arith, omega arith, (λ l. absurd (lt-irrefl _ l)), sym (ap₂ (badIn t) f k))
+    (f, omega arith, omega arith, omega arith, (λ l. absurd (lt-irrefl _ l)), record { from-here = sym (ap₂ (badIn t) f k) })
 
 entry-holds-requires : tie.Need-entry-holds-requires Inv-loop μ-loop
 entry-holds-requires c κs =
@@ -62,31 +62,16 @@ entry-holds-requires c κs =
 
 returns : tie.Need-returns Inv-loop μ-loop
 returns c =
-    let a = c .before .before .before .before .before .before .before .before .before .args in
-    let l = c .before .before .before .loop in
-    let t = entriesTree (a .c) (now (a .nodes)) (now (a .entries)) (now (a .text)) in
     let bad = ap not (sym (c .before .entry-holds .ensures)) ∙ c .if1 .taken in
-    sym (ap searchOf (l .inv .5 ∙ find-here (λ k. not (entryHolds t k)) (l .e) _ (c .before .before .loop-test .taken) bad))
+    ap searchOf (finds-here (c .before .before .before .loop .inv .5) (c .before .before .loop-test .taken) bad)
 
 loop-again : tie.Need-loop-again Inv-loop μ-loop
 loop-again c =
-    let a = c .before .before .before .before .before .before .before .before .before .args in
     let l = c .before .before .before .loop in
-    let entry-holds = c .before .entry-holds in
-    let test = c .before .before .loop-test in
     let i = l .inv in
-    let t = entriesTree (a .c) (now (a .nodes)) (now (a .entries)) (now (a .text)) in
-    let at : l .e ≡ l .e + 1 - 1 = omega arith in
-    let h = entry-name t (l .e) (sym (entry-holds .ensures) ∙ not-false _ (c .if1 .left)) in
-    let on = find-on (λ k. not (entryHolds t k)) (l .e) _ (test .taken) (ap not (sym (entry-holds .ensures)) ∙ c .if1 .left) in
-    (i .0, i .1, omega arith, omega arith, (λ _. subst (λ (k : ℕ). nameHolds t k ≡ true) at h), i .5 ∙ on)
-
-returns-2 : tie.Need-returns-2 Inv-loop μ-loop
-returns-2 c =
-    let a = c .before .before .before .before .before .before .before .args in
-    let l = c .before .loop in
-    let t = entriesTree (a .c) (now (a .nodes)) (now (a .entries)) (now (a .text)) in
-    sym (ap searchOf (l .inv .5 ∙ find-done (λ k. not (entryHolds t k)) (l .e) _ (c .loop-test .left)))
+    let holds = sym (c .before .entry-holds .ensures) ∙ not-false _ (c .if1 .left) in
+    let back : l .e + 1 - 1 ≡ l .e = omega arith in
+    (i .0, i .1, omega arith, omega arith, (λ _. rw back (entry-name _ (l .e) holds)), finds-on (i .5) (c .before .before .loop-test .taken) (ap not holds))
 
 pub bad-in-directory-spec : {M : Type 1} → statement M
 bad-in-directory-spec =
@@ -102,4 +87,4 @@ bad-in-directory-spec =
     returns
     (λ c. search needs) (λ c. search needs)
     loop-again
-    returns-2)
+    (λ c. ap searchOf (finds-none (c .before .loop .inv .5) (c .loop-test .left))))

@@ -1,15 +1,14 @@
 -- `table_leads::steps_left` meets its contract: each arm is given its lead. Assumes nothing.
 use borrow.Author.Needs.{needs}
 use mathlib.Core.List.{[]}
-use mathlib.Core.Path.{sym, ap, _∙_}
+use mathlib.Core.Path.{sym, _∙_}
 use native.Mathlib.Omega.{arith}
 use denote.Ref.{now}
+use Rattle.model.specs.Tree.{isDirectory}
 use Rattle.parts.specs.Parts.{mountsTree}
 use Rattle.parts.proofs.PartsLaws.{directories-hold}
-use Rattle.table_leads.specs.Climbs.{climbed, stepsAfter}
-use Rattle.table_leads.specs.declared.Lead.{Lead}
+use Rattle.table_leads.proofs.ClimbLaws.{steps-settled, steps-into, steps-dangling}
 use Rattle.table_leads.proofs.LeadLaws.{into-facts}
-use Rattle.model.specs.Tree.{isDirectory}
 use Rattle.table_leads.proofs.steps_left.Statement.{statement}
 use Rattle.table_leads.proofs.steps_left.Tie as tie
 
@@ -36,31 +35,6 @@ climb-requires c κs =
     let led = into-facts t (a .links) (a .k) _ _ (pre .3) (sym (lead-of .ensures) ∙ mount .given .1) in
     (pre .0, directories-hold (a .c) (now (a .nodes)) (now (a .mounts)) [] [] [] [] [] (pre .2), led .1)
 
-returns : tie.Need-returns
-unfolding stepsAfter
-returns c =
-    let a = c .before .before .before .before .before .args in
-    let t = mountsTree (a .c) (now (a .nodes)) (now (a .mounts)) in
-    ap (λ (l : Lead). stepsAfter t l (a .steps)) (sym (sym (c .before .before .lead-of .ensures) ∙ c .enum-told .given .1))
-
-returns-2 : tie.Need-returns-2
-unfolding stepsAfter
-returns-2 c =
-    let a = c .before .before .before .before .before .before .before .before .args in
-    let lead-of = c .before .before .before .before .before .lead-of in
-    let mount = c .before .before .before .mount in
-    let mount-root = c .before .mount-root in
-    let t = mountsTree (a .c) (now (a .nodes)) (now (a .mounts)) in
-    let led = sym (lead-of .ensures) ∙ mount .given .1 in
-    c .climb .ensures ∙ ap (climbed (t .parent) (a .steps) _) (mount-root .ensures .0) ∙ ap (λ (l : Lead). stepsAfter t l (a .steps)) (sym led)
-
-returns-3 : tie.Need-returns-3
-unfolding stepsAfter
-returns-3 c =
-    let a = c .before .before .before .before .before .args in
-    let t = mountsTree (a .c) (now (a .nodes)) (now (a .mounts)) in
-    ap (λ (l : Lead). stepsAfter t l (a .steps)) (sym (sym (c .before .before .lead-of .ensures) ∙ c .enum-told2 .given .1))
-
 pub steps-left-spec : {M : Type 1} → statement M
 steps-left-spec =
     tie.close
@@ -69,6 +43,6 @@ steps-left-spec =
     mount-root-requires
     climb-requires
     (λ c. search needs)
-    returns
-    returns-2
-    returns-3)
+    (λ c. search (needs, steps-settled))
+    (λ c. search (needs, steps-into))
+    (λ c. search (needs, steps-dangling)))

@@ -1,8 +1,6 @@
 -- `table_mounts::first_clash_of_few` meets its contract. The loop's invariant: the first clash is the first from here on. Assumes nothing.
 use borrow.Author.Needs.{needs}
 use Prim.Native.Nat.{_-_}
-use mathlib.Core.Path.{sym, _∙_}
-use native.Mathlib.Omega.{arith}
 use Rattle.model.specs.TableCheck.{sharesPoint}
 use Rattle.parts.proofs.FoundLaws.{first-hit, first-miss, first-none}
 use Rattle.table_mounts.specs.Clashes.{firstClash}
@@ -16,25 +14,15 @@ Inv-loop mounts end m₀ m = ClashFrom mounts end m
 abbrev μ-loop : tie.MeasureT-loop
 μ-loop mounts end m₀ m = end - m
 
-returns : tie.Need-returns Inv-loop μ-loop
-unfolding firstClash sharesPoint
-returns c = first-hit (c .before .before .before .loop .inv) (omega arith) (sym (c .before .shares-point .ensures) ∙ c .if1 .taken)
-
-loop-again : tie.Need-loop-again Inv-loop μ-loop
-loop-again c = first-miss (c .before .before .before .loop .inv) (omega arith) (sym (c .before .shares-point .ensures) ∙ c .if1 .left)
-
-returns-2 : tie.Need-returns-2 Inv-loop μ-loop
-unfolding firstClash sharesPoint
-returns-2 c = first-none (c .before .loop .inv) (omega arith)
-
 pub first-clash-of-few-spec : {M : Type 1} → statement M
+unfolding firstClash sharesPoint
 first-clash-of-few-spec =
     tie.close
     (tie.spec
     Inv-loop
     μ-loop
     (λ c. search needs) (λ c κs. search needs)
-    returns
+    (λ c. search (needs, first-hit))
     (λ c. search needs) (λ c. search needs)
-    loop-again
-    returns-2)
+    (λ c. search (needs, first-miss))
+    (λ c. search (needs, first-none)))

@@ -2,7 +2,7 @@
 -- and the points of the mounts passed are noted. Assumes nothing.
 use borrow.Author.Needs.{needs}
 use Prim.Native.Nat.{ℕ, _-_}
-use mathlib.Core.Path.{_≡_, refl, sym, _∙_}
+use mathlib.Core.Path.{_≡_, refl, _∙_}
 use native.Mathlib.Omega.{arith}
 use Rattle.model.specs.TableCheck.{sharesPoint}
 use Rattle.parts.proofs.FoundLaws.{first-hit, first-miss, first-none}
@@ -27,14 +27,14 @@ returns : tie.Need-returns Inv-loop μ-loop
 unfolding firstClash sharesPoint
 returns c =
     let d = c .before .before in
-    first-hit (d .before .before .before .loop .inv .0) (omega arith) (sym (d .clashes .ensures .0) ∙ c .if1 .taken)
+    first-hit (d .before .before .before .loop .inv .0) (omega arith) (d .clashes .ensures .0) (c .if1 .taken)
 
 loop-again : tie.Need-loop-again Inv-loop μ-loop
 loop-again c =
     let d = c .before .before in
     let inv = d .before .before .before .loop .inv in
     let told = d .clashes .ensures in
-    (first-miss (inv .0) (omega arith) (sym (told .0) ∙ c .if1 .left), told .1, told .2 ∙ inv .2)
+    (first-miss (inv .0) (omega arith) (told .0) (c .if1 .left), told .1, told .2 ∙ inv .2)
 
 returns-2 : tie.Need-returns-2 Inv-loop μ-loop
 unfolding firstClash sharesPoint

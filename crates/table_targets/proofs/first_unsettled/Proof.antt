@@ -3,7 +3,7 @@ use borrow.Author.Needs.{needs}
 use Prim.Native.Nat.{_-_}
 use mathlib.Core.Bool.{not}
 use mathlib.Core.List.{[]}
-use mathlib.Core.Path.{_≡_, refl, sym, ap, _∙_}
+use mathlib.Core.Path.{_≡_, refl, ap, _∙_}
 use native.Mathlib.Omega.{arith}
 use Rattle.parts.specs.Parts.{mountsTree}
 use Rattle.table_leads.specs.Leads.{linkLead, settled}
@@ -29,14 +29,14 @@ loop-holds c =
 returns : tie.Need-returns Inv-loop μ-loop
 returns c =
     let d = c .before .before in
-    let unsettled = sym (ap not (c .before .is-settled .ensures ∙ ap settled (d .link-lead .ensures))) ∙ c .if1 .taken in
-    first-hit (d .before .before .loop .inv .1) (omega arith) unsettled
+    let told = ap not (c .before .is-settled .ensures ∙ ap settled (d .link-lead .ensures)) in
+    first-hit (d .before .before .loop .inv .1) (omega arith) told (c .if1 .taken)
 
 loop-again : tie.Need-loop-again Inv-loop μ-loop
 loop-again c =
     let d = c .before .before in
-    let is-settled = sym (ap not (c .before .is-settled .ensures ∙ ap settled (d .link-lead .ensures))) ∙ c .if1 .left in
-    (refl, first-miss (d .before .before .loop .inv .1) (omega arith) is-settled)
+    let told = ap not (c .before .is-settled .ensures ∙ ap settled (d .link-lead .ensures)) in
+    (refl, first-miss (d .before .before .loop .inv .1) (omega arith) told (c .if1 .left))
 
 returns-2 : tie.Need-returns-2 Inv-loop μ-loop
 returns-2 c = first-none (c .before .loop .inv .1) (omega arith)

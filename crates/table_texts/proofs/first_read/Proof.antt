@@ -1,7 +1,6 @@
 -- `table_texts::first_read` meets its contract. The loop's invariant: no record before this one is barred. Assumes nothing.
 use borrow.Author.Needs.{needs}
 use Prim.Native.Nat.{_-_}
-use mathlib.Core.Path.{sym, _∙_}
 use native.Mathlib.Omega.{arith}
 use Rattle.parts.proofs.FoundLaws.{first-hit, first-miss, first-none}
 use Rattle.table_texts.proofs.RecordLaws.{record-fits, NoneBefore, first-start}
@@ -14,22 +13,10 @@ Inv-loop records text count names k₀ k = NoneBefore names records text count k
 abbrev μ-loop : tie.MeasureT-loop
 μ-loop records text count names k₀ k = count - k
 
-loop-holds : tie.Need-loop-holds Inv-loop μ-loop
-loop-holds c = first-start _ _ _ _
-
 read-barred-requires : tie.Need-read-barred-requires Inv-loop μ-loop
 read-barred-requires c κs =
     let d = c .before .before .before .before in
     record-fits (d .args .names) (c .before .loop .k) (d .args .count) _ (d .pre) (omega arith)
-
-returns : tie.Need-returns Inv-loop μ-loop
-returns c = first-hit (c .before .before .before .loop .inv) (omega arith) (sym (c .before .read-barred .ensures) ∙ c .if1 .taken)
-
-loop-again : tie.Need-loop-again Inv-loop μ-loop
-loop-again c = first-miss (c .before .before .before .loop .inv) (omega arith) (sym (c .before .read-barred .ensures) ∙ c .if1 .left)
-
-returns-2 : tie.Need-returns-2 Inv-loop μ-loop
-returns-2 c = first-none (c .before .loop .inv) (omega arith)
 
 pub first-read-spec : {M : Type 1} → statement M
 first-read-spec =
@@ -37,9 +24,9 @@ first-read-spec =
     (tie.spec
     Inv-loop
     μ-loop
-    loop-holds
+    (λ c. search (needs, first-start))
     read-barred-requires
-    returns
+    (λ c. search (needs, first-hit))
     (λ c. search needs) (λ c. search needs)
-    loop-again
-    returns-2)
+    (λ c. search (needs, first-miss))
+    (λ c. search (needs, first-none)))

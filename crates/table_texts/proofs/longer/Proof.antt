@@ -1,18 +1,14 @@
 -- `table_texts::longer` meets its contract. The loop's invariant: the sum is that of the parts before. Assumes nothing.
 use borrow.Author.Needs.{needs}
-use Prim.Native.Nat.{_-_, _*_, _≤_}
-use mathlib.Core.Path.{_≡_, sym}
+use Prim.Native.Nat.{_-_}
 use native.Mathlib.Omega.{arith}
-use denote.Ref.{now}
 use Rattle.model.specs.TableCheck.{sumBelow}
-use Rattle.table_texts.specs.Barred.{partLength}
-use Rattle.table_texts.proofs.RecordLaws.{record-fits, sum-next, longer-here, longer-not}
+use Rattle.table_texts.proofs.RecordLaws.{record-fits, SumTo, longer-here, longer-on, longer-not}
 use Rattle.table_texts.proofs.longer.Statement.{statement}
 use Rattle.table_texts.proofs.longer.Tie as tie
 
 abbrev Inv-loop : tie.InvT-loop
-Inv-loop records count names limit sum₀ k₀ sum k = (k ≤ count) × (sum ≤ 4294967296 * k) × (sum ≤ limit)
-    × (sum ≡ sumBelow (λ i. partLength names records i) k)
+Inv-loop records count names limit sum₀ k₀ sum k = SumTo names records count limit sum k
 
 abbrev μ-loop : tie.MeasureT-loop
 μ-loop records count names limit sum₀ k₀ sum k = count - k
@@ -26,27 +22,6 @@ part-length-requires c κs =
     let d = c .before .before .before in
     record-fits (d .args .names) (c .before .loop .k) (d .args .count) _ (d .pre .0) (omega arith)
 
-returns : tie.Need-returns Inv-loop μ-loop
-returns c =
-    let a = c .before .before .before .before .before .args in
-    let l = c .before .before .before .loop in
-    let p = c .before .part-length .ensures .0 in
-    let e = sum-next (a .names) (now (a .records)) (l .k) (l .sum) _ (l .inv .3) p in
-    sym (longer-here (a .names) (now (a .records)) (a .count) (a .limit) _ _ (omega arith) e (omega arith))
-
-loop-again : tie.Need-loop-again Inv-loop μ-loop
-loop-again c =
-    let a = c .before .before .before .before .before .args in
-    let l = c .before .before .before .loop in
-    let p = c .before .part-length .ensures .0 in
-    (omega arith, omega arith, omega arith, sum-next (a .names) (now (a .records)) (l .k) (l .sum) _ (l .inv .3) p)
-
-returns-2 : tie.Need-returns-2 Inv-loop μ-loop
-returns-2 c =
-    let a = c .before .before .before .args in
-    let l = c .before .loop in
-    sym (longer-not (a .names) (now (a .records)) (a .count) (a .limit) (l .k) (l .sum) (omega arith) (l .inv .3) (omega arith))
-
 pub longer-spec : {M : Type 1} → statement M
 longer-spec =
     tie.close
@@ -56,7 +31,7 @@ longer-spec =
     loop-holds
     part-length-requires
     (λ c. search needs)
-    returns
+    (λ c. search (needs, longer-here))
     (λ c. search needs) (λ c. search needs)
-    loop-again
-    returns-2)
+    (λ c. search (needs, longer-on))
+    (λ c. search (needs, longer-not)))

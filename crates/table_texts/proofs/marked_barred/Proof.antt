@@ -17,12 +17,13 @@ returns c =
 
 returns-2 : tie.Need-returns-2
 returns-2 c =
-    let a = c .before .before .before .before .before .before .before .before .args in
+    let d = c .before .before .before .before .before .before .before .before in
+    let a = d .args in
     let start = c .before .before .before .part-start in
     let at = start .result in
     let end = at + c .before .before .part-length .result in
     let t = now (a .text) in
-    ap (λ (x : ℕ). ltb x end) (c .next-barred .ensures)
+    ap (λ (x : ℕ). ltb x end) (c .next-barred .ensures (a .names) t (d .pre .0) (omega arith))
     ∙ part-first (a .names) t at end (omega arith) (omega arith)
     ∙ sym (inside (a .names) (now (a .records)) t (a .k) at end (start .ensures .0) (omega arith) (omega arith))
 

@@ -2,7 +2,7 @@
 use borrow.Author.Needs.{needs}
 use Prim.Native.Nat.{_-_}
 use mathlib.Core.Bool.{not}
-use mathlib.Core.Path.{sym, ap, _∙_}
+use mathlib.Core.Path.{ap}
 use native.Mathlib.Omega.{arith}
 use Rattle.parts.specs.Parts.{mountsTree}
 use Rattle.parts.proofs.FoundLaws.{first-hit, first-miss, first-none}
@@ -20,10 +20,10 @@ loop-holds : tie.Need-loop-holds Inv-loop μ-loop
 loop-holds c = broken-start _ _ _ _ (omega arith)
 
 returns : tie.Need-returns Inv-loop μ-loop
-returns c = first-hit (c .before .before .before .loop .inv) (omega arith) (ap not (sym (c .before .record-keeps .ensures)) ∙ c .if1 .taken)
+returns c = first-hit (c .before .before .before .loop .inv) (omega arith) (ap not (c .before .record-keeps .ensures)) (c .if1 .taken)
 
 loop-again : tie.Need-loop-again Inv-loop μ-loop
-loop-again c = first-miss (c .before .before .before .loop .inv) (omega arith) (ap not (sym (c .before .record-keeps .ensures)) ∙ c .if1 .left)
+loop-again c = first-miss (c .before .before .before .loop .inv) (omega arith) (ap not (c .before .record-keeps .ensures)) (c .if1 .left)
 
 returns-2 : tie.Need-returns-2 Inv-loop μ-loop
 returns-2 c = first-none (c .before .loop .inv) (omega arith)

@@ -11,11 +11,9 @@ returns c = within-outside _ _ _ (c .before .before .mount-root .ensures .0) (om
 
 sub-has-bit : tie.Need-sub-has-bit
 sub-has-bit c =
-    let d = c .before .before .before .before .before .before .before .before .before .before in
-    let a = d .args in
-    let p = d .pre in
-    let mount-root = c .before .before .before .before .before .before .mount-root in
-    omega (arith, own-some (p .1) (a .mount) (mount-root .result) (mount-root .ensures .0) (p .2) (omega arith), c .wide2 .ensures .0)
+    let root = c .before .before .before .before .before .before in
+    let p = root .before .before .before .before .pre in
+    omega (arith, own-some (p .1) _ (root .mount-root .ensures .0) (p .2) (omega arith), c .wide2 .ensures .0)
 
 has-bit-requires : tie.Need-has-bit-requires
 has-bit-requires c κs =

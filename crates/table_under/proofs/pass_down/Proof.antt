@@ -28,10 +28,9 @@ loop-again c =
     let a = d .args in
     let p = d .pre in
     let l = c .before .before .before .before .before .before .before .before .loop in
-    let pass-to = c .before .before .before .before .pass-to in
-    let s = chart (l .near) (l .rows) in (
+    let pass-to = c .before .before .before .before .pass-to in (
       omega arith,
-      subst Fitting (sym (pass-to .ensures)) (passed-fitting (parentIn (now (a .nodes))) (l .n) s (l .inv .1) (omega (arith, p .1, l .inv .3))),
+      subst Fitting (sym (pass-to .ensures)) (passed-fitting (parentIn (now (a .nodes))) (l .n) (l .inv .1) (omega (arith, p .1, l .inv .3))),
       down-more _ _ _ (l .inv .2) (pass-to .ensures),
       pass-to .kept .1 .0 ∙ l .inv .3,
       pass-to .kept .1 .1 .0 ∙ l .inv .4,

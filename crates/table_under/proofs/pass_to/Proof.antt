@@ -3,7 +3,6 @@ use native.Mathlib.Omega.{arith}
 use mathlib.Core.Path.{_∙_}
 use denote.Ref.{now}
 use Rattle.model.specs.Tree.{parentIn}
-use Rattle.table_under.specs.Rows.{chart}
 use Rattle.table_under.proofs.NearLaws.{pass-on, pass-root, above-room, own-room}
 use borrow.Author.Needs.{needs}
 use Rattle.table_under.proofs.pass_to.Statement.{statement}
@@ -14,26 +13,20 @@ returns c = pass-on _ _ _ _ (c .before .before .before .row-above .ensures) (c .
 
 copy-row-requires : tie.Need-copy-row-requires
 copy-row-requires c κs =
-    let d = c .before .before .before .before .before .before .before .before .before .before in
-    let a = d .args in
-    let s = chart (now (a .near)) (now (a .rows)) in
-    let parent = parentIn (now (a .nodes)) in
-    let fitting = d .pre .2 in
-    let row-above = c .before .before .before .before .before .row-above in
-    let wide = c .before .before .before .wide in (
-      omega (arith, above-room parent (a .n) s fitting, row-above .ensures, c .wide2 .ensures .0),
-      omega (arith, own-room (a .n) s fitting, wide .ensures .0),
+    let row = c .before .before .before .before .before in
+    let d = row .before .before .before .before .before in
+    let own = c .before .before .before .wide .ensures .0 in (
+      omega (arith, above-room (parentIn (now (d .args .nodes))) (d .args .n) (d .pre .2), row .row-above .ensures, c .wide2 .ensures .0),
+      omega (arith, own-room (d .args .n) (d .pre .2), own),
     )
 
 set-bit-requires : tie.Need-set-bit-requires
 set-bit-requires c κs =
-    let d = c .before .before .before .before .before .before .before .before .before .before .before .before .before .before in
-    let a = d .args in
-    let s = chart (now (a .near)) (now (a .rows)) in
-    let fitting = d .pre .2 in
-    let wide = c .before .before .before .before .before .before .before .wide in (
-      omega (arith, own-room (a .n) s fitting, wide .ensures .0, c .before .before .before .copy-row .kept .0),
-      omega (arith, fitting .few (a .n), wide .ensures .0),
+    let row = c .before .before .before .before .before .before .before in
+    let d = row .before .before .before .before .before .before .before in
+    let own = row .wide .ensures .0 in (
+      omega (arith, own-room (d .args .n) (d .pre .2), own, c .before .before .before .copy-row .kept .0),
+      omega (arith, d .pre .2 .few (d .args .n), own),
     )
 
 returns-2 : tie.Need-returns-2

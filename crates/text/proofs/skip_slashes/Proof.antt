@@ -1,7 +1,7 @@
 -- `text::skip_slashes` meets its contract. The loop's invariant: past the slashes at `at` is past those at `next`. Assumes nothing.
 use borrow.Author.Needs.{needs}
 use Prim.Native.Nat.{_-_}
-use mathlib.Core.Path.{_≡_, _∙_, sym}
+use mathlib.Core.Path.{_≡_}
 use lib.ListN.{length}
 use Rattle.text.specs.Positions.{pastSlashes}
 use Rattle.text.proofs.Scans.{past-here, past-on, past-done}
@@ -14,15 +14,6 @@ Inv-loop s at next₀ next = pastSlashes s at ≡ pastSlashes s next
 abbrev μ-loop : tie.MeasureT-loop
 μ-loop s at next₀ next = length s - next
 
-returns : tie.Need-returns Inv-loop μ-loop
-returns c = sym (c .before .before .before .loop .inv ∙ past-here _ _ (c .before .before .loop-test .taken) (c .if1 .taken))
-
-loop-again : tie.Need-loop-again Inv-loop μ-loop
-loop-again c = c .before .before .before .loop .inv ∙ past-on _ _ (c .before .before .loop-test .taken) (c .if1 .left)
-
-returns-2 : tie.Need-returns-2 Inv-loop μ-loop
-returns-2 c = sym (c .before .loop .inv ∙ past-done _ _ (c .loop-test .left))
-
 pub skip-slashes-spec : {M : Type 1} → statement M
 skip-slashes-spec =
     tie.close
@@ -30,7 +21,7 @@ skip-slashes-spec =
     Inv-loop
     μ-loop
     (λ c. search needs) (λ c. search needs)
-    returns
+    (λ c. search (needs, past-here))
     (λ c. search needs) (λ c. search needs)
-    loop-again
-    returns-2)
+    (λ c. search (needs, past-on))
+    (λ c. search (needs, past-done)))

@@ -7,7 +7,7 @@ use denote.Ref.{now}
 use Rattle.model.specs.Bytes.{find, sameBytes}
 use Rattle.model.specs.Tree.{treeOf, lookup}
 use Rattle.laws.proofs.Acceptance.{accepted-below, accepted-sound, entries-inside, name-facts}
-use Rattle.laws.proofs.ByteLaws.{find-here, find-on, find-done}
+use Rattle.laws.proofs.ByteLaws.{Finds, finds-here, finds-on, finds-none}
 use Rattle.parts.specs.Searches.{searchOf}
 use Rattle.tree.proofs.find_entry.Statement.{statement}
 use Rattle.tree.proofs.find_entry.Tie as tie
@@ -16,7 +16,7 @@ abbrev Inv-loop : tie.InvT-loop
 Inv-loop image c n wanted e₀ end e =
     let t = treeOf image in
     (end ≡ t .first n + t .count n) × (t .first n ≤ e) × (e ≤ end)
-    × (lookup t n wanted ≡ find (λ k. sameBytes (t .name k) wanted) e (end - e))
+    × Finds (λ k. sameBytes (t .name k) wanted) end (lookup t n wanted) e
 
 abbrev μ-loop : tie.MeasureT-loop
 μ-loop image c n wanted e₀ end e = end - e
@@ -35,7 +35,7 @@ loop-holds c =
     let s = now (args .image) in
     let f = node-first .ensures .0 in
     let k : node-first .result + c .node-count .result - node-first .result ≡ treeOf s .count (args .n) = omega (arith, c .node-count .ensures .0) in
-    (omega (arith, f, c .node-count .ensures .0), omega (arith, f), omega arith, sym (ap₂ (find (λ (k : ℕ). sameBytes (treeOf s .name k) (now (args .wanted)))) f k))
+    (omega (arith, f, c .node-count .ensures .0), omega (arith, f), omega arith, record { from-here = sym (ap₂ (find (λ (k : ℕ). sameBytes (treeOf s .name k) (now (args .wanted)))) f k) })
 
 is-named-requires : tie.Need-is-named-requires Inv-loop μ-loop
 is-named-requires c κs =
@@ -51,19 +51,14 @@ is-named-requires c κs =
 
 returns : tie.Need-returns Inv-loop μ-loop
 returns c =
-    let loop = c .before .before .before .loop in
-    sym (ap searchOf (loop .inv .3 ∙ find-here _ (loop .e) _ (c .before .before .loop-test .taken) (sym (c .before .is-named .ensures) ∙ c .if1 .taken)))
+    let named = sym (c .before .is-named .ensures) ∙ c .if1 .taken in
+    ap searchOf (finds-here (c .before .before .before .loop .inv .3) (c .before .before .loop-test .taken) named)
 
 loop-again : tie.Need-loop-again Inv-loop μ-loop
 loop-again c =
-    let loop = c .before .before .before .loop in
+    let inv = c .before .before .before .loop .inv in
     let other = sym (c .before .is-named .ensures) ∙ c .if1 .left in
-    (loop .inv .0, omega arith, omega arith, loop .inv .3 ∙ find-on _ (loop .e) _ (c .before .before .loop-test .taken) other)
-
-returns-2 : tie.Need-returns-2 Inv-loop μ-loop
-returns-2 c =
-    let loop = c .before .loop in
-    sym (ap searchOf (loop .inv .3 ∙ find-done _ (loop .e) _ (c .loop-test .left)))
+    (inv .0, omega arith, omega arith, finds-on (inv .3) (c .before .before .loop-test .taken) other)
 
 pub find-entry-spec : {M : Type 1} → statement M
 find-entry-spec =
@@ -79,4 +74,4 @@ find-entry-spec =
     returns
     (λ c. search needs) (λ c. search needs)
     loop-again
-    returns-2)
+    (λ c. ap searchOf (finds-none (c .before .loop .inv .3) (c .loop-test .left))))

@@ -9,7 +9,7 @@ use Rattle.model.specs.Bytes.{find}
 use Rattle.model.specs.Tree.{treeOf, mountOn}
 use Rattle.model.specs.Walk.{placeAt}
 use Rattle.laws.proofs.Acceptance.{accepted-sound}
-use Rattle.laws.proofs.ByteLaws.{find-here, find-on, find-done}
+use Rattle.laws.proofs.ByteLaws.{find-done, Finds, finds-here, finds-on, finds-none}
 use Rattle.laws.proofs.MountLaws.{onPlace, mount-on-above, mount-on-root}
 use Rattle.laws.proofs.StringLaws.{packed-same, packed-other}
 use Rattle.parts.specs.Searches.{searchOf}
@@ -19,7 +19,7 @@ use Rattle.tree.proofs.find_mount.Tie as tie
 abbrev Inv-loop : tie.InvT-loop
 Inv-loop image c mount node end m₀ wanted m =
     let t = treeOf image in
-    (end ≡ t .mounts) × (m ≤ end) × (mountOn t (placeAt mount node) ≡ find (onPlace t mount node) m (end - m))
+    (end ≡ t .mounts) × (m ≤ end) × Finds (onPlace t mount node) end (mountOn t (placeAt mount node)) m
 
 abbrev μ-loop : tie.MeasureT-loop
 μ-loop image c mount node end m₀ wanted m = end - m
@@ -48,7 +48,7 @@ loop-holds c =
     let t = treeOf (now (a .image)) in
     let from-above = mount-on-above t (accepted-sound (now (a .image)) (p .1) .mounts-hold) (a .mount) (a .node) (p .2) in
     let ends = ap (λ (k : ℕ). find (onPlace t (a .mount) (a .node)) (a .mount + 1) (k - (a .mount + 1))) (sym (p .0 .mounts-are)) in
-    (p .0 .mounts-are, omega (arith, p .0 .mounts-are), from-above ∙ ends)
+    (p .0 .mounts-are, omega (arith, p .0 .mounts-are), record { from-here = from-above ∙ ends })
 
 returns-3 : tie.Need-returns-3 Inv-loop μ-loop
 returns-3 c =
@@ -60,7 +60,7 @@ returns-3 c =
     let point = c .before .packed-point .ensures in
     let same = packed-same (t .mountParent (l .m)) (t .mountPoint (l .m)) (a .mount) (a .node) (point .1) (omega (arith, few)) (sym (point .0) ∙ c .if3 .taken) in
     let cut : l .m ≡ l .m % 65536 = omega (arith, l .inv .0, few) in
-    sym (ap searchOf (l .inv .2 ∙ find-here _ (l .m) _ (c .before .before .loop-test .taken) same ∙ ap some cut))
+    ap searchOf (ap some (sym cut) ∙ finds-here (l .inv .2) (c .before .before .loop-test .taken) same)
 
 loop-again : tie.Need-loop-again Inv-loop μ-loop
 loop-again c =
@@ -69,12 +69,7 @@ loop-again c =
     let t = treeOf (now (a .image)) in
     let point = c .before .packed-point .ensures .0 in
     let other = packed-other (t .mountParent (l .m)) (t .mountPoint (l .m)) (a .mount) (a .node) (λ e. c .if3 .left (point ∙ e)) in
-    (l .inv .0, omega arith, l .inv .2 ∙ find-on _ (l .m) _ (c .before .before .loop-test .taken) other)
-
-returns-4 : tie.Need-returns-4 Inv-loop μ-loop
-returns-4 c =
-    let l = c .before .loop in
-    sym (ap searchOf (l .inv .2 ∙ find-done _ (l .m) _ (c .loop-test .left)))
+    (l .inv .0, omega arith, finds-on (l .inv .2) (c .before .before .loop-test .taken) other)
 
 pub find-mount-spec : {M : Type 1} → statement M
 find-mount-spec =
@@ -92,4 +87,4 @@ find-mount-spec =
     returns-3
     (λ c. search needs) (λ c. search needs)
     loop-again
-    returns-4)
+    (λ c. ap searchOf (finds-none (c .before .loop .inv .2) (c .loop-test .left))))

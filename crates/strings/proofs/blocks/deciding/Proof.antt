@@ -1,31 +1,21 @@
 -- `strings::blocks::deciding` meets its contract. Assumes nothing.
-use native.Mathlib.Omega.{arith}
-use denote.Ref.{now}
-use Rattle.strings.proofs.BlockLaws.{lower-part, upper-part, loads-same, loads-differ}
 use borrow.Author.Needs.{needs}
+use native.Mathlib.Omega.{arith}
+use Rattle.strings.proofs.BlockLaws.{lower-part, upper-part, loads-same, loads-differ}
 use Rattle.strings.proofs.blocks.deciding.Statement.{statement}
 use Rattle.strings.proofs.blocks.deciding.Tie as tie
 
 returns-2 : tie.Need-returns-2
 returns-2 c =
-    let long = c .before .before .before .deciding-long in
-    let args = c .before .before .before .before .before .before .before .args in
-    let a = now (args .a) in
-    let b = now (args .b) in
-    lower-part 4 4 (long .ensures) (omega arith)
-    (loads-differ 4 a b (long .result) (c .before .before .u32-at .ensures .0) (c .before .u32-at2 .ensures .0) (c .if2 .taken))
+    lower-part 4 4 (c .before .before .before .deciding-long .ensures) (omega arith)
+    (loads-differ 4 _ _ _ (c .before .before .u32-at .ensures .0) (c .before .u32-at2 .ensures .0) (c .if2 .taken))
 
 returns-3 : tie.Need-returns-3
 returns-3 c =
-    let long = c .before .before .before .deciding-long in
-    let args = c .before .before .before .before .before .before .before .args in
-    let a = now (args .a) in
-    let b = now (args .b) in
-    upper-part 4 4 (long .ensures)
-    (λ k. omega (arith, c .before .before .before .before .before .before .shared-slice-known .given k))
-    (λ k. omega (arith, c .before .before .before .before .before .shared-slice-known2 .given k))
-    (omega arith)
-    (loads-same 4 a b (long .result) (c .before .before .u32-at .ensures .0) (c .before .u32-at2 .ensures .0) (c .if2 .left))
+    let long = c .before .before .before in
+    let d = long .before .before in
+    upper-part 4 4 (long .deciding-long .ensures) (d .before .shared-slice-known .given) (d .shared-slice-known2 .given) (omega arith)
+    (loads-same 4 _ _ _ (c .before .before .u32-at .ensures .0) (c .before .u32-at2 .ensures .0) (c .if2 .left))
 
 pub deciding-spec : {M : Type 1} → statement M
 deciding-spec =

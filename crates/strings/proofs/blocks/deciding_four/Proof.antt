@@ -1,30 +1,21 @@
 -- `strings::blocks::deciding_four` meets its contract. Assumes nothing.
-use denote.Ref.{now}
-use Rattle.strings.proofs.BlockLaws.{decides-here, decides-later, decides-last, loads-same, loads-differ}
-use native.Mathlib.Omega.{arith}
 use borrow.Author.Needs.{needs}
+use native.Mathlib.Omega.{arith}
+use Rattle.strings.proofs.BlockLaws.{decides-here, decides-later, decides-last, loads-same, loads-differ}
 use Rattle.strings.proofs.blocks.deciding_four.Statement.{statement}
 use Rattle.strings.proofs.blocks.deciding_four.Tie as tie
 
 returns : tie.Need-returns
 returns c =
-    let args = c .before .before .before .before .before .args in
-    let a = now (args .a) in
-    let b = now (args .b) in
-    decides-here 4 a b 0 (λ i h. absurd (omega arith)) (omega arith)
-    (loads-differ 4 a b 0 (c .before .before .u32-at .ensures .0) (c .before .u32-at2 .ensures .0) (c .if1 .taken))
+    decides-here 4 _ _ 0 (λ i h. absurd (omega arith)) (omega arith)
+    (loads-differ 4 _ _ 0 (c .before .before .u32-at .ensures .0) (c .before .u32-at2 .ensures .0) (c .if1 .taken))
 
 returns-2 : tie.Need-returns-2
 returns-2 c =
-    let args = c .before .before .before .before .before .args in
-    let a = now (args .a) in
-    let b = now (args .b) in
-    decides-last 4 a b 4
-    (decides-later 4 a b 0 (λ i h. absurd (omega arith))
-    (λ k. omega (arith, c .before .before .before .before .shared-slice-known .given k))
-    (λ k. omega (arith, c .before .before .before .shared-slice-known2 .given k))
-    (loads-same 4 a b 0 (c .before .before .u32-at .ensures .0) (c .before .u32-at2 .ensures .0) (c .if1 .left)))
-    (omega arith)
+    let d = c .before .before .before in
+    let same = loads-same 4 _ _ 0 (c .before .before .u32-at .ensures .0) (c .before .u32-at2 .ensures .0) (c .if1 .left) in
+    decides-last 4 _ _ 4
+    (decides-later 4 _ _ 0 (λ i h. absurd (omega arith)) (d .before .shared-slice-known .given) (d .shared-slice-known2 .given) same) (omega arith)
 
 pub deciding-four-spec : {M : Type 1} → statement M
 deciding-four-spec = tie.close (tie.spec (λ c κs. search needs) (λ c κs. search needs) returns returns-2)

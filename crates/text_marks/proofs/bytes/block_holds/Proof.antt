@@ -1,48 +1,19 @@
 -- `text_marks::bytes::block_holds` meets its contract. The loop's invariant: the byte stands in the part if it was found, or stands in
 -- what is left of it from `i` on. Assumes nothing.
 use borrow.Author.Needs.{needs}
-use Prim.Native.Nat.{_+_, _-_, _≤_}
-use mathlib.Core.Bool.{_||_}
+use Prim.Native.Nat.{_-_}
 use mathlib.Core.Logic.{⊎-elim}
-use mathlib.Core.Path.{_≡_, _∙_}
-use native.Mathlib.Omega.{arith}
-use native.Mathlib.Nat.{add-zero}
-use denote.Ref.{now}
-use Rattle.model.specs.Bytes.{part, contains}
+use Rattle.model.specs.Bytes.{part}
+use Rattle.laws.proofs.StringLaws.{Seen}
 use Rattle.text_marks.proofs.BlockLaws.{block-hit, block-miss, block-all}
 use Rattle.text_marks.proofs.bytes.block_holds.Statement.{statement}
 use Rattle.text_marks.proofs.bytes.block_holds.Tie as tie
 
 abbrev Inv-loop : tie.InvT-loop
-Inv-loop s byte at width found₀ i₀ found i = (i ≤ width) × (contains byte (part s at width) ≡ found || contains byte (part s (at + i) (width - i)))
+Inv-loop s byte at width found₀ i₀ found i = Seen byte (part s at width) found i
 
 abbrev μ-loop : tie.MeasureT-loop
 μ-loop s byte at width found₀ i₀ found i = width - i
-
-loop-holds : tie.Need-loop-holds Inv-loop μ-loop
-loop-holds c =
-    let all : c .args .width - 0 ≡ c .args .width = omega arith in
-    (omega arith, rw (add-zero (c .args .at), all))
-
-loop-again : tie.Need-loop-again Inv-loop μ-loop
-loop-again c =
-    let start = c .before .before .before .before in
-    let a = start .args in
-    let l = c .before .before .before .loop in
-    let test = c .before .before .loop-test .taken in (
-      omega arith,
-      ⊎-elim
-          (λ w. block-hit (a .byte) (now (a .s)) (a .at) (a .width) (l .i) (l .found) (start .pre) (l .inv .1) test (w .0 .taken) ∙ rw (w .1))
-          (λ w. block-miss (a .byte) (now (a .s)) (a .at) (a .width) (l .i) (l .found) (start .pre) (l .inv .1) test (w .0 .left) ∙ rw (w .1))
-          (c .if1 .came),
-    )
-
-returns : tie.Need-returns Inv-loop μ-loop
-returns c =
-    let start = c .before .before in
-    let a = start .args in
-    let l = c .before .loop in
-    block-all (a .byte) (now (a .s)) (a .at) (a .width) (l .i) (l .found) (start .pre) (l .inv .1) (c .loop-test .left)
 
 pub block-holds-spec : {M : Type 1} → statement M
 block-holds-spec =
@@ -50,7 +21,6 @@ block-holds-spec =
     (tie.spec
     Inv-loop
     μ-loop
-    loop-holds
-    (λ c. search needs) (λ c. search needs) (λ c. search needs) (λ c. search needs)
-    loop-again
-    returns)
+    (λ c. search needs) (λ c. search needs) (λ c. search needs) (λ c. search needs) (λ c. search needs)
+    (λ c. ⊎-elim (λ w. search (needs, block-hit)) (λ w. search (needs, block-miss)) (c .if1 .came))
+    (λ c. search (needs, block-all)))
