@@ -1,13 +1,11 @@
 -- Laws of rule 4: its sentences by what was read of a node, and the loop over the nodes. Assumes nothing.
 use Prim.Native.Nat.{ℕ, _+_, _-_, _*_, _^_, _≤_, _<_}
 use mathlib.Core.Bool.{Bool, true, false, not, and-false}
-use mathlib.Core.List.{List}
-use mathlib.Core.Option.{some, none}
 use mathlib.Core.Path.{_≡_, refl, sym, ap, ap₂, _∙_}
 use native.Mathlib.Numerals.{add-one}
 use native.Mathlib.Omega.{arith}
 use borrow.Author.Tests.{eq-eqb, ne-eqb, lt-ltb, le-leb, lt-leb}
-use lib.Dec.{eqb, leb, ltb}
+use lib.Dec.{eqb}
 use Rattle.model.specs.Bytes.{contains, firstFailing}
 use Rattle.model.specs.Tree.{Tree, isDirectory}
 use Rattle.model.specs.TableCheck.{directoryCount, sumBelow, countsBefore, directoryHolds, fileHolds, symlinkHolds, nodeHolds, rule4}
