@@ -23,10 +23,18 @@ impl Side {
     #[cfg(not(feature = "proved"))]
     pub const PROVED: Option<Side> = None;
 
-    /// The side of that name, if this build has it.
+    /// The sides that this build has.
+    pub fn all() -> impl Iterator<Item = Side> {
+        [Some(Side::Plain), Some(Side::Linear), Side::PROVED].into_iter().flatten()
+    }
+
     pub fn named(name: &str) -> Option<Side> {
-        let sides = [Some(Side::Plain), Some(Side::Linear), Side::PROVED];
-        sides.into_iter().flatten().find(|side| side.name() == name)
+        Side::all().find(|side| side.name() == name)
+    }
+
+    /// Whether the side has an answer of its own: the linear one walks as plain.
+    pub fn takes_part(self, input: &Input) -> bool {
+        !matches!((self, &input.call), (Side::Linear, Call::Resolve { .. }))
     }
 
     pub fn name(self) -> &'static str {
@@ -60,26 +68,32 @@ impl Side {
         }
     }
 
-    /// The answers to an input, all of which have to be the expected one: a
-    /// walk's table also has to be accepted, and the resolver that checks it
-    /// each time has to answer as the one that does not.
+    /// The answers to an input, all of which have to be the expected one: where a
+    /// call's table is accepted, the resolver that checks it each time has to
+    /// answer as the one that does not.
     pub fn answers(self, input: &Input) -> Vec<Numbers> {
         let image = input.image.as_slice();
-        match (self, &input.call) {
-            (Side::Plain, Call::Check) => vec![checked(plain::check(image))],
-            (Side::Linear, Call::Check) => vec![checked(linear::check(image))],
-            (Side::Plain | Side::Linear, &Call::Resolve { handle, ref path, ref how }) => vec![
-                resolved(plain::resolve(image, handle, path, how)),
-                Accepted::plain(image).resolve(handle, path, how),
-            ],
+        let checked = match self {
+            Side::Plain => checked(plain::check(image)),
+            Side::Linear => checked(linear::check(image)),
             #[cfg(feature = "proved")]
-            (Side::Proved, Call::Check) => vec![proved::check(image)],
+            Side::Proved => proved::check(image),
+        };
+        let Call::Resolve { handle, path, how } = &input.call else { return vec![checked] };
+        let is_accepted = checked == [0; 6];
+        let (answer, table) = match self {
+            Side::Plain | Side::Linear => (
+                resolved(plain::resolve(image, *handle, path, how)),
+                is_accepted.then(|| Accepted::plain(image)),
+            ),
             #[cfg(feature = "proved")]
-            (Side::Proved, &Call::Resolve { handle, ref path, ref how }) => vec![
-                proved::resolve(image, handle, path, how),
-                proved::accepted(image).resolve(handle, path, how),
-            ],
-        }
+            Side::Proved => (
+                proved::resolve(image, *handle, path, how),
+                is_accepted.then(|| proved::accepted(image)),
+            ),
+        };
+        let walked = table.map(|table| table.resolve(*handle, path, how));
+        [answer].into_iter().chain(walked).collect()
     }
 }
 
