@@ -11,6 +11,11 @@ pub fn get(bytes: &[u8], at: usize, width: usize) -> Option<u64> {
     Some(field.iter().rev().fold(0, |number, byte| number << 8 | u64::from(*byte)))
 }
 
+/// The number at a place; 0 if its bytes are not there.
+pub fn number_at(bytes: &[u8], at: usize, width: usize) -> usize {
+    get(bytes, at, width).unwrap_or(0) as usize
+}
+
 /// Writes a number over the bytes at a place, if they are there.
 pub fn set(bytes: &mut [u8], at: usize, width: usize, number: usize) {
     let mut field = Vec::new();
@@ -41,7 +46,7 @@ pub const ENTRY: usize = 8;
 
 impl Layout {
     pub fn of(image: &[u8]) -> Layout {
-        let number = |at, width| get(image, at, width).unwrap_or(0) as usize;
+        let number = |at, width| number_at(image, at, width);
         let (nodes, mounts, entries) = (number(4, 2), number(6, 2), number(8, 2));
         let mounts_at = NODES_AT + NODE * nodes;
         let entries_at = mounts_at + MOUNT * mounts;
