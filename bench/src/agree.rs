@@ -139,18 +139,7 @@ fn tree(dice: &mut Dice) -> Tree {
     }
 
     let roots = mounts(&mut tree, &parents, dice);
-    for _ in 0..dice.below(12) {
-        let beyond = usize::from(dice.one_in(16));
-        let mount = dice.below(roots.len() + beyond);
-        let root = roots.get(mount).copied().unwrap_or(top);
-        let target = if others.is_empty() || dice.one_in(2) {
-            under(&parents, root, dice)
-        } else {
-            dice.pick(&others)
-        };
-        others.push(tree.magic(mount, target));
-    }
-
+    magic_links(&mut tree, &parents, &roots, &mut others, dice);
     for &(directory, parent) in &parents {
         if directory != parent && dice.one_in(2) {
             tree.name_again(parent, part(&text, dice), directory);
@@ -160,6 +149,27 @@ fn tree(dice: &mut Dice) -> Tree {
         }
     }
     tree
+}
+
+/// Links to directories or to other nodes, most of them in order.
+fn magic_links(
+    tree: &mut Tree,
+    parents: &[(usize, usize)],
+    roots: &[usize],
+    others: &mut Vec<usize>,
+    dice: &mut Dice,
+) {
+    for _ in 0..dice.below(12) {
+        let beyond = usize::from(dice.one_in(16));
+        let mount = dice.below(roots.len() + beyond);
+        let root = roots.get(mount).copied().unwrap_or(parents[0].0);
+        let target = if others.is_empty() || dice.one_in(2) {
+            under(parents, root, dice)
+        } else {
+            dice.pick(others)
+        };
+        others.push(tree.magic(mount, target));
+    }
 }
 
 /// Text with few bytes that a name or body may not have, or none.

@@ -58,7 +58,8 @@ pub const GROWTHS: &[Growth] = &[
     },
     Growth {
         name: "check-mixed",
-        about: "the check of one directory with SIZE names of 8 bytes, and an absolute link for each four",
+        about: "the check of one directory with SIZE names of 8 bytes, \
+            and an absolute link for each four",
         sizes: &[1, 10, 30, 100, 1_000],
         build: check_mixed,
     },

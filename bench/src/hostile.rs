@@ -48,17 +48,20 @@ pub const CASES: &[Case] = &[
     },
     Case {
         name: "hostile-short-bodies",
-        about: "4,095 symbolic links with bodies of 23 bytes over shared text, a zero byte between any two",
+        about: "4,095 symbolic links with bodies of 23 bytes over shared text, \
+            a zero byte between any two",
         build: || accepted(&short_bodies()),
     },
     Case {
         name: "hostile-some-names",
-        about: "1,500 names of 80 bytes over shared text, a slash between any two, and 42,800 letters",
+        about: "1,500 names of 80 bytes over shared text, a slash between any two, \
+            and 42,800 letters",
         build: || accepted(&some_names()),
     },
     Case {
         name: "hostile-some-bodies",
-        about: "1,500 symbolic links with bodies of 80 bytes over shared text, a zero byte between any two",
+        about: "1,500 symbolic links with bodies of 80 bytes over shared text, \
+            a zero byte between any two",
         build: || accepted(&some_bodies()),
     },
     Case {
@@ -132,7 +135,8 @@ fn names_and_slash() -> Tree {
     tree
 }
 
-/// Alike but for the last two bytes; as many as the text has room for, in as many directories as make 4,096 entries.
+/// Alike but for the last two bytes; as many as the text has room for, in as many
+/// directories as make 4,096 entries.
 fn names_between_slashes(length: usize) -> Tree {
     let (mut tree, top) = Tree::mounted();
     let file = tree.file();

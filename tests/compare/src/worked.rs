@@ -84,3 +84,41 @@ impl Worked {
         Err(self.difference("lent bytes were changed", got))
     }
 }
+
+#[cfg(test)]
+mod tests {
+    use super::*;
+    use crate::faults::Fault;
+    use crate::subject::Planted;
+    use data::worked::LIST;
+
+    fn list() -> Vec<Worked> {
+        read_file(&format!("{}/../../{LIST}", env!("CARGO_MANIFEST_DIR"))).expect("the list")
+    }
+
+    #[test]
+    fn both_shapes_answer_as_the_list_says() {
+        for worked in list() {
+            for compared in [worked.compare_resolver(), worked.compare_subject(&mut Planted(None))]
+            {
+                if let Err(difference) = compared {
+                    let Difference { what, expected, got } = difference;
+                    panic!(
+                        "{}: {what}: expected {expected:?}, got {got:?}\n{worked}",
+                        worked.name()
+                    );
+                }
+            }
+        }
+    }
+
+    #[test]
+    fn each_fault_is_found_by_the_case_that_it_names() {
+        let cases = list();
+        for fault in Fault::ALL {
+            let named = cases.iter().find(|worked| worked.name() == fault.found_by());
+            let named = named.unwrap_or_else(|| panic!("{fault:?} names no case"));
+            assert!(named.compare_subject(&mut Planted(Some(*fault))).is_err(), "{fault:?}");
+        }
+    }
+}
