@@ -73,29 +73,29 @@ impl Side {
     /// answer as the one that does not.
     pub fn answers(self, input: &Input) -> Vec<Numbers> {
         let image = input.image.as_slice();
-        let checked = match self {
-            Side::Plain => checked(plain::check(image)),
-            Side::Linear => checked(linear::check(image)),
+        let is_accepted = |answer: Numbers| answer[0] != EUCLEAN;
+        match (self, &input.call) {
+            (Side::Plain, Call::Check) => vec![checked(plain::check(image))],
+            (Side::Linear, Call::Check) => vec![checked(linear::check(image))],
+            (Side::Plain | Side::Linear, &Call::Resolve { handle, ref path, ref how }) => {
+                let answer = resolved(plain::resolve(image, handle, path, how));
+                let walk = || Accepted::plain(image).resolve(handle, path, how);
+                [answer].into_iter().chain(is_accepted(answer).then(walk)).collect()
+            }
             #[cfg(feature = "proved")]
-            Side::Proved => proved::check(image),
-        };
-        let Call::Resolve { handle, path, how } = &input.call else { return vec![checked] };
-        let is_accepted = checked == [0; 6];
-        let (answer, table) = match self {
-            Side::Plain | Side::Linear => (
-                resolved(plain::resolve(image, *handle, path, how)),
-                is_accepted.then(|| Accepted::plain(image)),
-            ),
+            (Side::Proved, Call::Check) => vec![proved::check(image)],
             #[cfg(feature = "proved")]
-            Side::Proved => (
-                proved::resolve(image, *handle, path, how),
-                is_accepted.then(|| proved::accepted(image)),
-            ),
-        };
-        let walked = table.map(|table| table.resolve(*handle, path, how));
-        [answer].into_iter().chain(walked).collect()
+            (Side::Proved, &Call::Resolve { handle, ref path, ref how }) => {
+                let answer = proved::resolve(image, handle, path, how);
+                let walk = || proved::accepted(image).resolve(handle, path, how);
+                [answer].into_iter().chain(is_accepted(answer).then(walk)).collect()
+            }
+        }
     }
 }
+
+/// What a call on a table that is not accepted answers.
+pub const EUCLEAN: u64 = plain::Errno::EUCLEAN as u64;
 
 /// Not inlined, so that both sides are called by the same instructions.
 #[inline(never)]

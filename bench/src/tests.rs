@@ -4,7 +4,7 @@
 use crate::growth::{self, GROWTHS};
 use crate::measure::Measured;
 use crate::plain::{self, Handle};
-use crate::side::resolved;
+use crate::side::{resolved, EUCLEAN};
 use crate::sweep::{self, LENGTHS, SWEEPS};
 use crate::tables::{cases, Call};
 use crate::{chart, grouped};
@@ -74,8 +74,6 @@ fn the_chart_has_a_bar_for_each_ratio() {
     assert_eq!(svg.matches("<path").count(), 1);
     assert!(svg.starts_with("<svg ") && svg.ends_with("</svg>\n"));
 }
-
-const EUCLEAN: u64 = 117;
 
 /// No image and no call makes the code panic, and what the check accepts the
 /// resolver can walk.
