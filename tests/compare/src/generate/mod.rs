@@ -55,6 +55,9 @@ fn call_group(seed: u64, group: u64) -> Vec<Case> {
     (0..CALLS_A_GROUP).map(|_| Case::Call(call(&mut dice, &image, table.as_ref()))).collect()
 }
 
+/// The cases of a group, by the seed and its number.
+type Group = fn(u64, u64) -> Vec<Case>;
+
 /// A case with its stream and its number there.
 pub struct Numbered {
     pub stream: &'static str,
@@ -64,9 +67,9 @@ pub struct Numbered {
 
 /// One case by itself, without those before it.
 pub fn one(seed: u64, stream: &str, number: u64) -> Option<Case> {
-    let (group, many): (fn(u64, u64) -> Vec<Case>, u64) = match stream {
-        "table" => (table_group, TABLES_A_GROUP),
-        "call" => (call_group, CALLS_A_GROUP),
+    let (group, many) = match stream {
+        "table" => (table_group as Group, TABLES_A_GROUP),
+        "call" => (call_group as Group, CALLS_A_GROUP),
         _ => return None,
     };
     group(seed, number / many).into_iter().nth((number % many) as usize)
@@ -82,7 +85,7 @@ pub struct Cases {
 
 struct Stream {
     name: &'static str,
-    group: fn(u64, u64) -> Vec<Case>,
+    group: Group,
     a_group: u64,
     made: u64,
     wanted: u64,
