@@ -84,6 +84,11 @@ class Parts:
         for number, (_, (at, length, _)) in enumerate(self.entries):
             yield f'{number}: "{self.part(at, length)}" in {self.owner(number)}'
 
+    def meaning(self):
+        """What the records say, wherever in the text their names and bodies stand."""
+        nodes = [(kind, parent, self.part(first, count) if kind == 3 else (first, count)) for _, (kind, parent, first, count) in self.nodes]
+        return nodes, [fields for _, fields in self.mounts], [(self.part(at, length), node) for _, (at, length, node) in self.entries]
+
     def texts(self):
         """The text, cut where names and bodies begin."""
         starts = {at for _, (at, _, _) in self.entries} | {first for _, (kind, _, first, _) in self.nodes if kind == 3}
@@ -156,13 +161,35 @@ def rust_image(text, folder):
     return bytes(ord(letter) if letter else int(number) for letter, number in words)
 
 
+def proofs_calls(text):
+    """The calls of the theorem in model/proofs."""
+    table = text.partition("\nworkedTable =\n")[2].partition("[]")[0]
+    for kind, path, rest, answer in re.findall(r'(call|markedCall) "([^"]*)" (.*) \(((?:at|error) [^()]*)\)', table):
+        words = [word.replace("-", "_") for word in re.findall(r"[A-Z][A-Z-]+", rest)]
+        first, *numbers = answer.split()[1:]
+        place = f"({first},{numbers[0]})" if answer.startswith("at") else first.upper()
+        yield _call(path, kind == "markedCall", words, f"{place}; {','.join(numbers[-2:])}")
+
+
+def proofs_image(text, name="bench"):
+    """The bytes of the theorem's image, which has its text in another order."""
+    told = re.search(rf"^{name} =(.*?)\n\n", text, re.M | re.S)
+    image = b""
+    for digits, letters, part in re.findall(r'hex "([^"]*)"|ascii "([^"]*)"|\b(bench[A-Z]\w+)', told[1] if told else ""):
+        image += proofs_image(text, part) if part else bytes.fromhex(digits) + letters.encode()
+    return image
+
+
 def compared(root, image, cases):
     """Where the bench tree stands besides: a name, and whether it is there as it is here."""
     rules = (root / "docs/RULES.md").read_text()
     rust = root / "bindings/rust/src/bench_tree.rs"
+    proofs = (root / "crates/model/proofs/BenchTree.antt").read_text()
     worked = list(calls(cases))
     return {
         "the calls of docs/RULES.md, 13.4": list(rules_calls(rules)) == worked,
+        "the calls of crates/model/proofs/BenchTree.antt": list(proofs_calls(proofs)) == worked,
+        "the image of crates/model/proofs/BenchTree.antt": Parts(proofs_image(proofs)).meaning() == Parts(image).meaning(),
         "the calls of bindings/rust/src/bench_tree.rs": list(rust_calls(rust.read_text())) == worked,
         "the image of bindings/rust/src/bench_tree.rs": rust_image(rust.read_text(), rust.parent) == image,
     }
