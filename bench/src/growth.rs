@@ -1,8 +1,9 @@
 //! How the cost of one call grows with its input, one measure of it at a time.
 
 use crate::measure::Measured;
-use crate::tables::{accepted, found, Input, Tree};
+use crate::tables::{accepted, found, Input};
 use crate::{grouped, optional, row};
+use data::image::Tree;
 use std::error::Error;
 
 pub struct Growth {
@@ -57,7 +58,8 @@ pub const GROWTHS: &[Growth] = &[
     },
     Growth {
         name: "check-mixed",
-        about: "the check of one directory with SIZE names of 8 bytes, and an absolute link for each four",
+        about: "the check of one directory with SIZE names of 8 bytes, \
+            and an absolute link for each four",
         sizes: &[1, 10, 30, 100, 1_000],
         build: check_mixed,
     },
@@ -135,7 +137,7 @@ pub fn measure() -> Result<Vec<Series>, Box<dyn Error>> {
 fn chain(size: usize) -> Tree {
     let (mut tree, top) = Tree::mounted();
     let name = tree.text(b"d");
-    tree.chain(top, name, size, size);
+    tree.chain(top, &name, size, size);
     tree
 }
 
@@ -145,7 +147,7 @@ fn directory(size: usize) -> Tree {
     let (mut tree, top) = Tree::mounted();
     let file = tree.file();
     for i in 0..size {
-        tree.name(top, &format!("{i:04}"), file);
+        tree.named(top, &format!("{i:04}"), file);
     }
     tree
 }
@@ -162,7 +164,7 @@ fn mounts(size: usize) -> Tree {
 
 fn walk_components(size: usize) -> Input {
     let path = vec!["d"; size].join("/");
-    found(&chain(size), 0, &path, (0, size as u64), size as u64, 0)
+    found(&chain(size), 0, &path, (0, size), size as u64, 0)
 }
 
 fn walk_entries(size: usize) -> Input {
@@ -170,34 +172,33 @@ fn walk_entries(size: usize) -> Input {
 }
 
 fn walk_mounts(size: usize) -> Input {
-    let last = size as u64;
-    found(&mounts(size), 0, &format!("{:03}", size - 1), (last, 2 * last), 1, 0)
+    found(&mounts(size), 0, &format!("{:03}", size - 1), (size, 2 * size), 1, 0)
 }
 
 fn walk_links(size: usize) -> Input {
     let (mut tree, top) = Tree::mounted();
-    tree.named_symlink(top, "l", ".");
+    tree.named_link(top, "l", ".");
     let file = tree.named_file(top, "f");
     let links = size as u64;
     let path = "l/".repeat(size) + "f";
-    found(&tree, 0, &path, (0, file.into()), 2 * links + 1, links)
+    found(&tree, 0, &path, (0, file), 2 * links + 1, links)
 }
 
 fn check_components(size: usize) -> Input {
-    accepted(chain(size))
+    accepted(&chain(size))
 }
 
 fn check_entries(size: usize) -> Input {
-    accepted(directory(size))
+    accepted(&directory(size))
 }
 
 fn check_long_names(size: usize) -> Input {
     let (mut tree, top) = Tree::mounted();
     let file = tree.file();
     for i in 0..size {
-        tree.name(top, &format!("{i:0100}"), file);
+        tree.named(top, &format!("{i:0100}"), file);
     }
-    accepted(tree)
+    accepted(&tree)
 }
 
 /// The bodies' slashes are in the text that the names are looked for in.
@@ -205,33 +206,33 @@ fn check_mixed(size: usize) -> Input {
     let (mut tree, top) = Tree::mounted();
     let file = tree.file();
     for i in 0..size {
-        tree.name(top, &format!("name{i:04}"), file);
+        tree.named(top, &format!("name{i:04}"), file);
     }
     for i in 0..size / 4 {
         let body = tree.text(format!("/pool/{i:06}").as_bytes());
-        tree.symlink(body);
+        tree.link(body);
     }
-    accepted(tree)
+    accepted(&tree)
 }
 
 fn check_mounts(size: usize) -> Input {
-    accepted(mounts(size))
+    accepted(&mounts(size))
 }
 
 fn check_links(size: usize) -> Input {
     let (mut tree, _) = Tree::mounted();
     for i in 0..size {
         let body = tree.text(format!("body{i:04}").as_bytes());
-        tree.symlink(body);
+        tree.link(body);
     }
-    accepted(tree)
+    accepted(&tree)
 }
 
 fn check_magic_links(size: usize) -> Input {
     let (mut tree, top) = Tree::mounted();
-    let directories: Vec<u16> = (0..100).map(|_| tree.directory(top)).collect();
+    let directories: Vec<usize> = (0..100).map(|_| tree.directory(top)).collect();
     for i in 0..size {
-        tree.magic_link(0, directories[i % directories.len()]);
+        tree.magic(0, directories[i % directories.len()]);
     }
-    accepted(tree)
+    accepted(&tree)
 }

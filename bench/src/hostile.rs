@@ -2,103 +2,107 @@
 //! what costs most in one rule or another. All are accepted but the one that
 //! breaks its rule at the last record.
 
-use crate::tables::{accepted, letters, Case, Input, Text, Tree};
+use crate::tables::{accepted, letters, Case, Input};
+use data::image::{Text, Tree};
 
 pub const CASES: &[Case] = &[
     Case {
         name: "hostile-names",
         about: "4,096 names of 255 bytes over shared text, alike but for the last byte",
-        build: || accepted(names()),
+        build: || accepted(&names()),
     },
     Case {
         name: "hostile-bodies",
         about: "4,095 symbolic links with bodies of 4,095 bytes over shared text",
-        build: || accepted(bodies()),
+        build: || accepted(&bodies()),
     },
     Case {
         name: "hostile-bodies-names",
         about: "the same over less text, and 1,468 names of 255 bytes over it",
-        build: || accepted(bodies_and_names()),
+        build: || accepted(&bodies_and_names()),
     },
     Case {
         name: "hostile-bodies-zero",
         about: "as hostile-bodies, and a zero byte that is in no body",
-        build: || accepted(bodies_and_zero()),
+        build: || accepted(&bodies_and_zero()),
     },
     Case {
         name: "hostile-bodies-zeros",
         about: "4,095 symbolic links with bodies of 300 bytes over shared text, between zero bytes",
-        build: || accepted(bodies_between_zeros()),
+        build: || accepted(&bodies_between_zeros()),
     },
     Case {
         name: "hostile-names-slash",
         about: "as hostile-names, and a slash that is in no name",
-        build: || accepted(names_and_slash()),
+        build: || accepted(&names_and_slash()),
     },
     Case {
         name: "hostile-names-slashes",
         about: "4,096 names of 255 bytes over shared text, a slash between any two",
-        build: || accepted(names_between_slashes(NAME)),
+        build: || accepted(&names_between_slashes(NAME)),
     },
     Case {
         name: "hostile-short-names",
         about: "4,096 names of 31 bytes over shared text, a slash between any two",
-        build: || accepted(names_between_slashes(31)),
+        build: || accepted(&names_between_slashes(31)),
     },
     Case {
         name: "hostile-short-bodies",
-        about: "4,095 symbolic links with bodies of 23 bytes over shared text, a zero byte between any two",
-        build: || accepted(short_bodies()),
+        about: "4,095 symbolic links with bodies of 23 bytes over shared text, \
+            a zero byte between any two",
+        build: || accepted(&short_bodies()),
     },
     Case {
         name: "hostile-some-names",
-        about: "1,500 names of 80 bytes over shared text, a slash between any two, and 42,800 letters",
-        build: || accepted(some_names()),
+        about: "1,500 names of 80 bytes over shared text, a slash between any two, \
+            and 42,800 letters",
+        build: || accepted(&some_names()),
     },
     Case {
         name: "hostile-some-bodies",
-        about: "1,500 symbolic links with bodies of 80 bytes over shared text, a zero byte between any two",
-        build: || accepted(some_bodies()),
+        about: "1,500 symbolic links with bodies of 80 bytes over shared text, \
+            a zero byte between any two",
+        build: || accepted(&some_bodies()),
     },
     Case {
         name: "hostile-points",
         about: "255 mount points at the end of a chain of 4,096 directories",
-        build: || accepted(points()),
+        build: || accepted(&points()),
     },
     Case {
         name: "hostile-one-point",
         about: "255 mounts, each in the one before, on the last of 4,096 directories",
-        build: || accepted(one_point(254)),
+        build: || accepted(&one_point(254)),
     },
     Case {
         name: "hostile-clash",
         about: "the same, the last two in the same mount: refused at the last",
-        build: || Input { expected: [6, 255, 0, 0, 0, 0], ..accepted(one_point(253)) },
+        build: || Input { expected: [6, 255, 0, 0, 0, 0], ..accepted(&one_point(253)) },
     },
     Case {
         name: "hostile-one-point-alone",
         about: "255 mounts, each in the one before, on one of 2 directories, and nothing else",
-        build: || accepted(one_point_alone()),
+        build: || accepted(&one_point_alone()),
     },
     Case {
         name: "hostile-magic",
         about: "3,840 magic links to the innermost of 256 nested roots, by every mount",
-        build: || accepted(magic_links(256)),
+        build: || accepted(&magic_links(256)),
     },
     Case {
         name: "hostile-magic-outer",
         about: "the same, by the mount of the outermost root",
-        build: || accepted(magic_links(1)),
+        build: || accepted(&magic_links(1)),
     },
     Case {
         name: "hostile-magic-names",
         about: "as hostile-magic, and 1,756 names of 255 bytes over shared text",
-        build: || accepted(magic_links_and_names(256)),
+        build: || accepted(&magic_links_and_names(256)),
     },
     Case {
         name: "hostile-magic-outer-names",
         about: "as hostile-magic-outer, and the same names",
-        build: || accepted(magic_links_and_names(1)),
+        build: || accepted(&magic_links_and_names(1)),
     },
 ];
 
@@ -120,7 +124,7 @@ fn names() -> Tree {
         })
         .collect();
     for i in 0..4_096 {
-        tree.name_as(directories[i / names.len()], names[i % names.len()], file);
+        tree.name_again(directories[i / names.len()], names[i % names.len()].clone(), file);
     }
     tree
 }
@@ -131,7 +135,8 @@ fn names_and_slash() -> Tree {
     tree
 }
 
-/// Alike but for the last two bytes; as many as the text has room for, in as many directories as make 4,096 entries.
+/// Alike but for the last two bytes; as many as the text has room for, in as many
+/// directories as make 4,096 entries.
 fn names_between_slashes(length: usize) -> Tree {
     let (mut tree, top) = Tree::mounted();
     let file = tree.file();
@@ -149,7 +154,7 @@ fn names_between_slashes(length: usize) -> Tree {
         })
         .collect();
     for i in 0..4_096 {
-        tree.name_as(directories[i / names.len()], names[i % names.len()], file);
+        tree.name_again(directories[i / names.len()], names[i % names.len()].clone(), file);
     }
     tree
 }
@@ -158,7 +163,7 @@ fn bodies_and_zero() -> Tree {
     let (mut tree, _) = Tree::mounted();
     let all = tree.text(&letters(16_355));
     tree.text(&[0]);
-    links(&mut tree, all);
+    links(&mut tree, &all);
     tree
 }
 
@@ -177,7 +182,7 @@ fn bodies_between_zeros() -> Tree {
     let (mut tree, _) = Tree::mounted();
     let stretches = before_zeros(&mut tree, 50, 326);
     for i in 0..4_095 {
-        tree.symlink(stretches[i % stretches.len()].part(i % 27, 300));
+        tree.link(stretches[i % stretches.len()].part(i % 27, 300));
     }
     tree
 }
@@ -186,7 +191,7 @@ fn short_bodies() -> Tree {
     let (mut tree, _) = Tree::mounted();
     let bodies = before_zeros(&mut tree, 681, 23);
     for i in 0..4_095 {
-        tree.symlink(bodies[i % bodies.len()]);
+        tree.link(bodies[i % bodies.len()].clone());
     }
     tree
 }
@@ -208,7 +213,7 @@ fn some_names() -> Tree {
         .collect();
     tree.text(&letters(42_800));
     for i in 0..1_500 {
-        tree.name_as(directories[i / names.len()], names[i % names.len()], file);
+        tree.name_again(directories[i / names.len()], names[i % names.len()].clone(), file);
     }
     tree
 }
@@ -217,7 +222,7 @@ fn some_bodies() -> Tree {
     let (mut tree, _) = Tree::mounted();
     let bodies = before_zeros(&mut tree, 586, 80);
     for i in 0..1_500 {
-        tree.symlink(bodies[i % bodies.len()]);
+        tree.link(bodies[i % bodies.len()].clone());
     }
     tree
 }
@@ -226,7 +231,7 @@ fn some_bodies() -> Tree {
 fn bodies() -> Tree {
     let (mut tree, _) = Tree::mounted();
     let all = tree.text(&letters(16_356));
-    links(&mut tree, all);
+    links(&mut tree, &all);
     tree
 }
 
@@ -234,25 +239,25 @@ fn bodies() -> Tree {
 fn bodies_and_names() -> Tree {
     let (mut tree, top) = Tree::mounted();
     let all = tree.text(&letters(4_612));
-    links(&mut tree, all);
+    links(&mut tree, &all);
     for i in 0..1_468 {
-        tree.name_as(top, all.part(2 * i, NAME), 1);
+        tree.name_again(top, all.part(2 * i, NAME), 1);
     }
     tree
 }
 
-fn links(tree: &mut Tree, all: Text) {
+fn links(tree: &mut Tree, all: &Text) {
     for i in 0..4_095 {
-        tree.symlink(all.part(3 * i % (all.len - BODY + 1), BODY));
+        tree.link(all.part(3 * i % (all.len() - BODY + 1), BODY));
     }
 }
 
 /// The chain of 4,096 directories, as many of them named as fit beside 256
 /// mounts.
-fn chain() -> (Tree, Vec<u16>) {
+fn chain() -> (Tree, Vec<usize>) {
     let (mut tree, top) = Tree::mounted();
     let name = tree.text(b"d");
-    let chain = tree.chain(top, name, 4_095, 1_789);
+    let chain = tree.chain(top, &name, 4_095, 1_789);
     (tree, chain)
 }
 
@@ -265,7 +270,7 @@ fn points() -> Tree {
 }
 
 /// `last` is the parent of the last mount.
-fn one_point(last: u16) -> Tree {
+fn one_point(last: usize) -> Tree {
     let (mut tree, chain) = chain();
     let point = chain[chain.len() - 1];
     for parent in (0..254).chain([last]) {
@@ -285,26 +290,26 @@ fn one_point_alone() -> Tree {
 
 /// A chain of 256 directories, each the root of a mount, and links to the last
 /// of them by the first `mounts` mounts in turn.
-fn magic_links(mounts: u16) -> Tree {
+fn magic_links(mounts: usize) -> Tree {
     let (mut tree, mut directory) = Tree::mounted();
     for _ in 1..256 {
         directory = tree.directory(directory);
         tree.mount(directory, 0, directory);
     }
     for i in 0..3_840 {
-        tree.magic_link(i % mounts, directory);
+        tree.magic(i % mounts, directory);
     }
     tree
 }
 
 /// Up to seven names in each directory: the same text from each of its first
 /// bytes on, so that each is alike the one before but for the last few bytes.
-fn magic_links_and_names(mounts: u16) -> Tree {
+fn magic_links_and_names(mounts: usize) -> Tree {
     let mut tree = magic_links(mounts);
     let all = tree.text(&[[b'n'; 254].as_slice(), &[b'x'; 7]].concat());
     for i in 0..1_756 {
         let magic_link = 256;
-        tree.name_as((i / 7) as u16, all.part(i % 7, NAME), magic_link);
+        tree.name_again(i / 7, all.part(i % 7, NAME), magic_link);
     }
     tree
 }

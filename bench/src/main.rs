@@ -1,18 +1,5 @@
 //! Measures Ventolaire's proved table check and resolver against plain Rust
-//! versions of the same rules.
-//!
-//! ```text
-//! bench list            the cases
-//! bench table           all cases: instructions and time per call
-//! bench growth          how instructions per call grow with the input
-//! bench sweep           instructions per call by the length of names and bodies
-//! bench calls           a call from Rust, its table checked each time and once
-//! bench all FILE        the first three, and a chart of the first two in FILE, as SVG
-//! bench run CASE plain|linear|proved CALLS
-//!                       one case, that many times
-//! bench call TABLE resolve|table CALLS
-//!                       one call of `bench calls`, that many times
-//! ```
+//! versions of the same rules. `bench --help` has the commands.
 //!
 //! There are two baselines: `plain`, the rules written straight down, and
 //! `linear`, for the table check alone, which takes time linear in the image even
@@ -54,20 +41,61 @@ mod tables;
 #[cfg(test)]
 mod tests;
 mod walk;
+mod worked;
 
 use measure::Measured;
 use side::Side;
 use std::error::Error;
+use std::fmt;
+use std::path::Path;
 use std::process::ExitCode;
 use tables::cases;
 
-const USAGE: &str = "usage: bench list | table | growth | sweep | calls | all FILE \
-    | run CASE plain|linear|proved CALLS | call TABLE resolve|table CALLS";
+const HELP: &str = "\
+Measures the proved table check and resolver against plain Rust versions of the same rules.
+
+bench list            the cases
+bench table           all cases: instructions and time per call
+bench growth          how instructions per call grow with the input
+bench sweep           instructions per call by the length of names and bodies
+bench calls           a call from Rust, its table checked each time and once
+bench all FILE        table, growth and sweep, and a chart of the first two in FILE, as SVG
+bench run CASE plain|linear|proved CALLS
+                      one case, that many times
+bench call TABLE resolve|table CALLS
+                      one call of `bench calls`, that many times
+bench cases FILE      asks every side for the answers to a list of worked cases, crates/cases/stdin;
+                      the last line counts what passed and what failed
+bench --help          this text
+
+The proved side takes part in builds with the feature `proved`. The status is 0, 1 if something
+failed, 2 if the arguments or a file are wrong.
+";
+
+/// What was asked for is wrong: one line that says how.
+#[derive(Debug)]
+struct Wrong(String);
+
+impl fmt::Display for Wrong {
+    fn fmt(&self, f: &mut fmt::Formatter) -> fmt::Result {
+        f.write_str(&self.0)
+    }
+}
+
+impl Error for Wrong {}
+
+fn wrong(what: impl Into<String>) -> Box<dyn Error> {
+    Box::new(Wrong(what.into()))
+}
 
 fn main() -> ExitCode {
     let args: Vec<String> = std::env::args().skip(1).collect();
     let args: Vec<&str> = args.iter().map(String::as_str).collect();
     let done = match args[..] {
+        ["--help" | "-h"] => {
+            print!("{HELP}");
+            Ok(())
+        }
         ["list"] => {
             list();
             Ok(())
@@ -81,15 +109,27 @@ fn main() -> ExitCode {
         ["call", table, way, calls] => calls::run(table, way, calls),
         ["all", file] => all(file),
         ["run", case, side, calls] => run(case, side, calls),
-        _ => Err(USAGE.into()),
+        ["cases", file] => worked(file),
+        _ => Err(wrong("no such command; `bench --help` names them")),
     };
     match done {
         Ok(()) => ExitCode::SUCCESS,
         Err(error) => {
             eprintln!("bench: {error}");
-            ExitCode::FAILURE
+            ExitCode::from(if error.is::<Wrong>() { 2 } else { 1 })
         }
     }
+}
+
+/// Asks every side for the answers to a list of worked cases.
+fn worked(file: &str) -> Result<(), Box<dyn Error>> {
+    let cases = data::worked::read_file(file).map_err(wrong)?;
+    let (passed, failed) = worked::compare(&cases);
+    println!("{passed} passed, {failed} failed");
+    if failed > 0 {
+        return Err("not all answers are those of the list".into());
+    }
+    Ok(())
 }
 
 fn list() {
@@ -112,8 +152,8 @@ fn list() {
 /// answers, so that none of the calls can be left out.
 fn run(case: &str, side: &str, calls: &str) -> Result<(), Box<dyn Error>> {
     let input = tables::input(case).or_else(|| growth::input(case)).or_else(|| sweep::input(case));
-    let input = input.ok_or_else(|| format!("no case {case}; `bench list` names them"))?;
-    let side = Side::named(side).ok_or_else(|| format!("no side {side} in this build"))?;
+    let input = input.ok_or_else(|| wrong(format!("no case {case}; `bench list` names them")))?;
+    let side = Side::named(side).ok_or_else(|| wrong(format!("no side {side} in this build")))?;
     println!("{}", side.run(&input, number_of_calls(calls)?));
     Ok(())
 }
@@ -125,7 +165,13 @@ fn number_of_calls(calls: &str) -> Result<u64, String> {
 /// All tables, and a chart of the first two.
 fn all(file: &str) -> Result<(), Box<dyn Error>> {
     if Side::PROVED.is_none() {
-        return Err("a chart needs the proved side: build with the feature `proved`".into());
+        return Err(wrong("a chart needs the proved side: build with the feature `proved`"));
+    }
+    // Told before minutes of measuring.
+    let path = Path::new(file);
+    let folder = path.parent().filter(|folder| !folder.as_os_str().is_empty());
+    if path.is_dir() || folder.is_some_and(|folder| !folder.is_dir()) {
+        return Err(wrong(format!("cannot write {file}: it is a folder, or is in none")));
     }
     let ratios = table()?;
     println!();

@@ -32,14 +32,16 @@ pub fn table(image: &[u8]) -> Table<'_> {
     Table::new(image).expect("walks are over accepted tables")
 }
 
-/// The answers of `bindings/rust`: by the table, and with the check before it.
-pub fn resolve(image: &[u8], handle: plain::Handle, path: &[u8], how: &[u8]) -> [Numbers; 2] {
-    let handle = Handle { mount: handle.mount, node: handle.node, mark: handle.mark };
-    let answers = [
-        table(image).resolve_raw(handle, path, how),
-        ventolaire::resolve_raw(image, handle, path, how),
-    ];
-    answers.map(numbers)
+/// The answers of `bindings/rust` with the check before each call and, where it accepts the table,
+/// by `Table`; then that of the walk that is measured.
+pub fn resolve(image: &[u8], handle: plain::Handle, path: &[u8], how: &[u8]) -> Vec<Numbers> {
+    let asked = Handle { mount: handle.mount, node: handle.node, mark: handle.mark };
+    let mut answers = vec![numbers(ventolaire::resolve_raw(image, asked, path, how))];
+    if let Ok(table) = Table::new(image) {
+        answers.push(numbers(table.resolve_raw(asked, path, how)));
+        answers.push(accepted(image).resolve(handle, path, how));
+    }
+    answers
 }
 
 fn numbers(answer: Result<Found, Refusal>) -> Numbers {

@@ -23,10 +23,18 @@ impl Side {
     #[cfg(not(feature = "proved"))]
     pub const PROVED: Option<Side> = None;
 
-    /// The side of that name, if this build has it.
+    /// The sides that this build has.
+    pub fn all() -> impl Iterator<Item = Side> {
+        [Some(Side::Plain), Some(Side::Linear), Side::PROVED].into_iter().flatten()
+    }
+
     pub fn named(name: &str) -> Option<Side> {
-        let sides = [Some(Side::Plain), Some(Side::Linear), Side::PROVED];
-        sides.into_iter().flatten().find(|side| side.name() == name)
+        Side::all().find(|side| side.name() == name)
+    }
+
+    /// Whether the side has an answer of its own: the linear one walks as plain.
+    pub fn takes_part(self, input: &Input) -> bool {
+        !matches!((self, &input.call), (Side::Linear, Call::Resolve { .. }))
     }
 
     pub fn name(self) -> &'static str {
@@ -60,29 +68,32 @@ impl Side {
         }
     }
 
-    /// The answers to an input, all of which have to be the expected one: a
-    /// walk's table also has to be accepted, and the resolver that checks it
-    /// each time has to answer as the one that does not.
+    /// The answers to an input, all of which have to be the expected one: where a
+    /// call's table is accepted, the resolver that checks it each time has to
+    /// answer as the one that does not.
     pub fn answers(self, input: &Input) -> Vec<Numbers> {
         let image = input.image.as_slice();
+        let is_accepted = |answer: Numbers| answer[0] != EUCLEAN;
         match (self, &input.call) {
             (Side::Plain, Call::Check) => vec![checked(plain::check(image))],
             (Side::Linear, Call::Check) => vec![checked(linear::check(image))],
-            (Side::Plain | Side::Linear, &Call::Resolve { handle, ref path, ref how }) => vec![
-                resolved(plain::resolve(image, handle, path, how)),
-                Accepted::plain(image).resolve(handle, path, how),
-            ],
+            (Side::Plain | Side::Linear, &Call::Resolve { handle, ref path, ref how }) => {
+                let answer = resolved(plain::resolve(image, handle, path, how));
+                let walk = || Accepted::plain(image).resolve(handle, path, how);
+                [answer].into_iter().chain(is_accepted(answer).then(walk)).collect()
+            }
             #[cfg(feature = "proved")]
             (Side::Proved, Call::Check) => vec![proved::check(image)],
             #[cfg(feature = "proved")]
             (Side::Proved, &Call::Resolve { handle, ref path, ref how }) => {
-                let mut answers = proved::resolve(image, handle, path, how).to_vec();
-                answers.push(proved::accepted(image).resolve(handle, path, how));
-                answers
+                proved::resolve(image, handle, path, how)
             }
         }
     }
 }
+
+/// What a call on a table that is not accepted answers.
+pub const EUCLEAN: u64 = plain::Errno::EUCLEAN as u64;
 
 /// Not inlined, so that both sides are called by the same instructions.
 #[inline(never)]

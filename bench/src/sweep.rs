@@ -2,8 +2,9 @@
 //! common ones, and where a faster way for long ones may lose.
 
 use crate::measure::{Measured, Sides};
-use crate::tables::{accepted, found, letters, Input, Tree};
+use crate::tables::{accepted, found, letters, Input};
 use crate::{grouped, optional, row};
+use data::image::Tree;
 use std::error::Error;
 use std::ops::RangeInclusive;
 
@@ -19,7 +20,7 @@ pub const SWEEPS: &[Sweep] = &[
     Sweep {
         name: "sweep-names",
         about: "the check of 10 directories of 100 names of LENGTH bytes, alike but for the last",
-        build: |len| accepted(directories(10, len)),
+        build: |len| accepted(&directories(10, len)),
     },
     Sweep {
         name: "sweep-bodies",
@@ -83,7 +84,7 @@ fn directories(number: usize, len: usize) -> Tree {
     for i in 0..number {
         let directory = if i == 0 { top } else { tree.directory(top) };
         for name in names(len) {
-            tree.name(directory, &name, file);
+            tree.named(directory, &name, file);
         }
     }
     tree
@@ -99,9 +100,9 @@ fn bodies(len: usize) -> Input {
     let (mut tree, _) = Tree::mounted();
     let all = tree.text(&letters(1_000 * len));
     for i in 0..1_000 {
-        tree.symlink(all.part(i * len, len));
+        tree.link(all.part(i * len, len));
     }
-    accepted(tree)
+    accepted(&tree)
 }
 
 fn lookup(len: usize) -> Input {

@@ -12,12 +12,15 @@
  *       |   |-- 10 fd, a magic link to (0,3)
  *       |   `-- 11 t -> tare/
  *       `-- 7 pool
+ *
+ * Written by tests/cases/write.
  */
 #ifndef BENCH_TREE_H
 #define BENCH_TREE_H
 
 #include <stdint.h>
 
+/* clang-format off */
 static const uint8_t bench_tree[] = {
     'T', 'O', 'C', '1',
     /* Counts of nodes, mounts and entries, zero; lengths of the text and of all. */
@@ -51,13 +54,21 @@ static const uint8_t bench_tree[] = {
     15, 0, 0, 0, 2, 0, 4, 0,  /* 8: "up" in 2 */
     45, 0, 0, 0, 3, 0, 9, 0,  /* 9: "run" in 8 */
     /* Text. */
-    'l', 'a', 'b', 'c', 'a', 'l',
-    't', 'a', 'r', 'e', '.', '.', '/', '.', '.',
+    'l', 'a', 'b',
+    'c', 'a', 'l',
+    't', 'a', 'r', 'e',
+    '.', '.', '/', '.', '.',
     'u', 'p',
     '/', 'l', 'a', 'b', '/', 'c', 'a', 'l', '/', 't', 'a', 'r', 'e',
-    'a', 'b', 's', 'l', 'o', 'o', 'p', 'l', 'o', 'o', 'p',
-    'p', 'o', 'o', 'l', 'r', 'u', 'n', 'f', 'd',
-    't', 'a', 'r', 'e', '/', 't',
+    'a', 'b', 's',
+    'l', 'o', 'o', 'p',
+    'l', 'o', 'o', 'p',
+    'p', 'o', 'o', 'l',
+    'r', 'u', 'n',
+    'f', 'd',
+    't', 'a', 'r', 'e', '/',
+    't',
 };
+/* clang-format on */
 
 #endif

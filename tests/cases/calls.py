@@ -41,6 +41,9 @@ for length, at, answer in [
     how = bytearray(length)
     how[at - 1] = 1
     call(f"how-{length}-byte-{at}-set", "cal", answer, how=bytes(how), shown=f"{length} bytes, byte {at} set")
+for length in range(24):
+    if length not in (0, 1, 16, 23):
+        call(f"how-{length}-zeros", "cal", refused(EINVAL), how=bytes(length), family="as many zero bytes, each other number below 24")
 how = bytearray(25)
 how[24] = 0x80
 call("how-25-high-bit-set", "cal", refused(E2BIG), how=bytes(how), shown="25 bytes, the highest bit of byte 25 set")
@@ -66,6 +69,7 @@ call("o-cloexec-on-file", "cal/tare", found(0, 3, 2, 0), flags=O_CLOEXEC)
 says("6.4", "Resolve: NO_XDEV 1, NO_MAGICLINKS 2, NO_SYMLINKS 4, BENEATH 8, IN_ROOT 16.")
 for bit in KNOWN_RESOLVE:
     call(f"known-resolve-{bit}", "cal", found(0, 2, 1, 0), resolve=1 << bit)
+call("known-flags-all-resolve-all-but-in-root", "cal", found(0, 2, 1, 0), flags=0x2B0000, resolve=15)
 call("known-resolve-all-but-in-root", "cal", found(0, 2, 1, 0), resolve=15)
 call("known-resolve-all-but-beneath", "cal", found(0, 2, 1, 0), resolve=23)
 
@@ -74,10 +78,18 @@ group("Unknown bits", "The bench tree, handle (0,1), path `cal`: EINVAL, with th
 says("6.5, 6.6", "An unknown bit is named by its number, lowest first: detail b for flags bit b, 64 + b for resolve bit b.")
 for bit in range(64):
     if bit not in KNOWN_FLAGS:
-        call(f"flags-bit-{bit}", "cal", refused(EINVAL, detail=bit), flags=1 << bit, family="each unknown bit of flags")
+        call(f"flags-bit-{bit}", "cal", refused(EINVAL, detail=bit), flags=1 << bit, family="each unknown bit of flags, alone")
 for bit in range(64):
     if bit not in KNOWN_RESOLVE:
-        call(f"resolve-bit-{bit}", "cal", refused(EINVAL, detail=64 + bit), resolve=1 << bit, family="each unknown bit of resolve")
+        call(f"resolve-bit-{bit}", "cal", refused(EINVAL, detail=64 + bit), resolve=1 << bit, family="each unknown bit of resolve, alone")
+for bit in range(64):
+    if bit not in KNOWN_FLAGS:
+        family = "each unknown bit of flags, with bit 63 and with bit 5 of resolve"
+        call(f"flags-bit-{bit}-and-more", "cal", refused(EINVAL, detail=bit), flags=1 << bit | 1 << 63, resolve=1 << 5, family=family)
+for bit in range(64):
+    if bit not in KNOWN_RESOLVE:
+        family = "each unknown bit of resolve, with bit 63"
+        call(f"resolve-bit-{bit}-and-more", "cal", refused(EINVAL, detail=64 + bit), resolve=1 << bit | 1 << 63, family=family)
 call("flags-bits-0-63", "cal", refused(EINVAL, detail=0), flags=1 | 1 << 63)
 call("flags-bits-31-32", "cal", refused(EINVAL, detail=31), flags=3 << 31)
 call("flags-bits-15-to-18", "cal", refused(EINVAL, detail=15), flags=0xF << 15)
@@ -162,6 +174,15 @@ over(BENCH, "bench")
 
 says("3.7, 7.5", 'A place is covered if it is the point, in the parent mount, of a mount other than mount 0. It is checked for every path.')
 call("handle-covered", ".", refused(EBADF), at=(0, 7))
+call("handle-root-absolute", "/", found(0, 0, 0, 0), at=(0, 0))
+call("handle-mount-2-absolute", "/", refused(EBADF), at=(2, 0))
+call("handle-mount-65536-absolute", "/", refused(EBADF), at=(65536, 0))
+call("handle-mount-2-to-32-absolute", "/", refused(EBADF), at=(2**32, 0))
+call("handle-node-12-absolute", "/", refused(EBADF), at=(0, 12))
+call("handle-node-65536-absolute", "/", refused(EBADF), at=(0, 65536))
+call("handle-node-2-to-32-absolute", "/", refused(EBADF), at=(0, 2**32))
+call("handle-outside-mount-0-absolute", "/", refused(EBADF), at=(0, 8))
+call("handle-above-mount-1-absolute", "/", refused(EBADF), at=(1, 0))
 call("handle-covered-absolute", "/", refused(EBADF), at=(0, 7))
 call("handle-bad-absolute", "/lab/cal", refused(EBADF), at=(0, 12))
 call("handle-file-absolute", "/", refused(ENOTDIR), at=(0, 3))

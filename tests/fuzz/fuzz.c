@@ -65,8 +65,7 @@ static uint8_t *place(struct fence fence, const uint8_t *bytes, size_t len)
 /* One bucket for each kind of answer, read by libFuzzer. */
 #define CHECKS (8 * 256)
 #define ANSWERS (1 << 14)
-__attribute__((section("__libfuzzer_extra_counters")))
-static uint8_t counters[CHECKS + ANSWERS];
+__attribute__((section("__libfuzzer_extra_counters"))) static uint8_t counters[CHECKS + ANSWERS];
 
 static size_t magnitude(uint64_t number)
 {
@@ -259,7 +258,8 @@ int LLVMFuzzerTestOneInput(const uint8_t *data, size_t size)
     size_t too_short = (bits >> 2 & 7) % VENTOLAIRE_ANSWER_LEN;
     prepare(again);
     require(ventolaire_check(lent.image, lent.image_len, again,
-                             too_short % VENTOLAIRE_CHECK_LEN) == 0,
+                             too_short % VENTOLAIRE_CHECK_LEN)
+                == 0,
             "check wrote into too little room");
     require(ventolaire_resolve(lent.image, lent.image_len, mount, node, mark,
                                lent.path, lent.path_len, lent.how, lent.how_len,

@@ -26,6 +26,10 @@ static const struct {
 
 int main(int argc, char **argv)
 {
+    if (argc == 2 && strcmp(argv[1], "--help") == 0) {
+        printf("seeds FOLDER: writes inputs to start fuzzing from into a folder\n");
+        return 0;
+    }
     if (argc != 2) {
         fprintf(stderr, "usage: seeds FOLDER\n");
         return 2;

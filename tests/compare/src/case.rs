@@ -5,6 +5,7 @@ use crate::resolver::{
     Restrictions, BENEATH, IN_ROOT, NO_MAGICLINKS, NO_SYMLINKS, NO_XDEV,
 };
 use crate::subject::{Handle, Lent, Subject};
+use data::worked::{call_arguments, check_arguments};
 use std::fmt;
 
 /// The restrictions that demand 3 (RULES 12.3) may add, as bits of resolve;
@@ -47,26 +48,15 @@ impl Call {
     }
 
     pub fn lent(&self) -> Lent {
-        Lent {
-            image: self.image.clone(),
-            path: self.path.clone(),
-            how: self.how.clone(),
-        }
+        Lent { image: self.image.clone(), path: self.path.clone(), how: self.how.clone() }
     }
 
     fn place(&self) -> Place {
-        Place {
-            mount: self.mount,
-            node: self.node,
-        }
+        Place { mount: self.mount, node: self.node }
     }
 
     pub fn handle(&self) -> Handle {
-        Handle {
-            mount: self.mount,
-            node: self.node,
-            mark: self.mark,
-        }
+        Handle { mount: self.mount, node: self.node, mark: self.mark }
     }
 
     /// The resolver's own answer.
@@ -86,37 +76,17 @@ pub enum Case {
     Call(Call),
 }
 
-pub fn hex(bytes: &[u8]) -> String {
-    bytes.iter().map(|byte| format!("{byte:02x}")).collect()
-}
-
-/// The bytes as one argument, also where there are none.
-fn argument(bytes: &[u8]) -> String {
-    if bytes.is_empty() {
-        "''".into()
-    } else {
-        hex(bytes)
-    }
-}
-
 /// The case as the arguments of `compare replay`.
 impl fmt::Display for Case {
     fn fmt(&self, f: &mut fmt::Formatter) -> fmt::Result {
         match self {
-            Case::Table(image) => write!(f, "--image {}", argument(image)),
-            Case::Call(call) => write!(
-                f,
-                "--image {} --mount {} --node {} --mark {} --path {} --how {} \
-                 --added {} --added-mark {}",
-                argument(&call.image),
-                call.mount,
-                call.node,
-                u8::from(call.mark),
-                argument(&call.path),
-                argument(&call.how),
-                call.added,
-                u8::from(call.added_mark),
-            ),
+            Case::Table(image) => f.write_str(&check_arguments(image)),
+            Case::Call(call) => {
+                let handle = (call.mount, call.node, call.mark);
+                let arguments = call_arguments(&call.image, handle, &call.path, &call.how);
+                let added_mark = u8::from(call.added_mark);
+                write!(f, "{arguments} --added {} --added-mark {added_mark}", call.added)
+            }
         }
     }
 }
@@ -144,11 +114,7 @@ fn same(what: &'static str, expected: &[u64], got: Vec<u64>) -> Result<(), Diffe
     if expected == got {
         return Ok(());
     }
-    Err(Difference {
-        what,
-        expected: expected.to_vec(),
-        got,
-    })
+    Err(Difference { what, expected: expected.to_vec(), got })
 }
 
 fn unchanged(before: &Lent, after: &Lent) -> Result<(), Difference> {
@@ -178,11 +144,7 @@ fn compare_table(subject: &mut dyn Subject, image: &[u8]) -> Result<Alike, Diffe
     let mut lent = image.to_vec();
     let got = subject.check(&mut lent);
     same("table check", &expected, got)?;
-    same(
-        "the lent image was changed",
-        &[0],
-        vec![u64::from(lent != image)],
-    )?;
+    same("the lent image was changed", &[0], vec![u64::from(lent != image)])?;
     Ok(Alike::Check(expected))
 }
 
@@ -203,25 +165,14 @@ fn compare_call(subject: &mut dyn Subject, call: &Call) -> Result<Alike, Differe
     let added = Restrictions::new(call.added_mark, call.added_bits());
     let second = second_answer(first, &events, set, added);
     let again = call.second();
-    ask(
-        &again,
-        &second,
-        "demand 3: the call with restrictions added",
-    )?;
+    ask(&again, &second, "demand 3: the call with restrictions added")?;
     // The walk itself, run with the added ones, must say the same.
     same(
         "demand 3 within the comparing resolver itself",
         &second.numbers(),
         again.answer().0.numbers().to_vec(),
     )?;
-    let stopped = events
-        .iter()
-        .find(|met| met.event.forbidden(added).is_some())
-        .map(|met| met.event);
-    Ok(Alike::Call {
-        first,
-        events,
-        second,
-        stopped,
-    })
+    let stopped =
+        events.iter().find(|met| met.event.forbidden(added).is_some()).map(|met| met.event);
+    Ok(Alike::Call { first, events, second, stopped })
 }

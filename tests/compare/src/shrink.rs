@@ -1,21 +1,18 @@
 //! Makes a case that shows a difference smaller, as long as it still does.
 
 use crate::case::{Call, Case};
-use crate::draft::{put, Draft, DraftNode};
 use crate::resolver::accept;
 use crate::subject::Subject;
+use crate::tree;
+use data::fields::{get, set};
+use data::image::{Entry, Node, Tree};
 use std::time::{Duration, Instant};
 
 const MOST_TRIES: usize = 20_000;
 const LONGEST: Duration = Duration::from_secs(8);
 
 pub fn shrink(subject: &mut dyn Subject, case: &Case) -> Case {
-    let mut shrinker = Shrinker {
-        subject,
-        best: case.clone(),
-        tries: 0,
-        since: Instant::now(),
-    };
+    let mut shrinker = Shrinker { subject, best: case.clone(), tries: 0, since: Instant::now() };
     while shrinker.pass() {}
     shrinker.best
 }
@@ -119,9 +116,9 @@ impl Shrinker<'_> {
         }
     }
 
-    /// The best case with another draft of its table.
-    fn attempt_draft(&mut self, draft: &Draft, change: impl FnOnce(&mut Call)) -> bool {
-        let image = draft.image(true);
+    /// The best case with another tree for its table.
+    fn attempt_tree(&mut self, tree: &Tree, change: impl FnOnce(&mut Call)) -> bool {
+        let image = tree.shared_image();
         if accept(&image).is_err() {
             return false;
         }
@@ -140,83 +137,101 @@ impl Shrinker<'_> {
         let Ok(table) = accept(self.image()) else {
             return;
         };
-        let mut draft = Draft::of(&table);
-        // From here on the image is the draft's.
-        if self.image() != draft.image(true) && !self.attempt_draft(&draft, |_| {}) {
+        let mut tree = tree::of(&table);
+        // From here on the image is the tree's.
+        if self.image() != tree.shared_image() && !self.attempt_tree(&tree, |_| {}) {
             return;
         }
-        for number in (0..draft.nodes.len()).rev() {
+        self.shrink_nodes(&mut tree);
+        for number in (0..tree.mounts.len()).rev() {
+            let candidate = tree::without_mount(&tree, number);
+            self.attempt_without(&mut tree, candidate, number as u64, |call| &mut call.mount);
+        }
+        for number in (0..tree.nodes.len()).rev() {
             if self.spent() {
                 return;
             }
-            match draft.nodes[number].clone() {
-                DraftNode::Directory { entries, .. } => {
-                    let names: Vec<Vec<u8>> = entries.into_keys().collect();
-                    self.shrink_entries(&mut draft, number, &names);
+            let candidate = tree::without_node(&tree, number);
+            self.attempt_without(&mut tree, candidate, number as u64, |call| &mut call.node);
+        }
+    }
+
+    /// Fewer names, shorter bodies, files for magic links.
+    fn shrink_nodes(&mut self, tree: &mut Tree) {
+        for number in (0..tree.nodes.len()).rev() {
+            if self.spent() {
+                return;
+            }
+            match tree.nodes[number].clone() {
+                Node::Directory { entries, .. } => {
+                    let names: Vec<Vec<u8>> =
+                        entries.into_iter().map(|entry| entry.name.bytes).collect();
+                    self.shrink_entries(tree, number, &names);
                 }
-                DraftNode::Link(body) => {
-                    shorter(&body)
+                Node::Link(body) => {
+                    shorter(&body.bytes)
                         .into_iter()
-                        .any(|body| self.attempt_node(&mut draft, number, DraftNode::Link(body)));
+                        .any(|body| self.attempt_node(tree, number, Node::Link(body.into())));
                 }
-                DraftNode::Magic { .. } => {
-                    self.attempt_node(&mut draft, number, DraftNode::File);
+                Node::Magic { .. } => {
+                    self.attempt_node(tree, number, Node::File);
                 }
-                DraftNode::File => {}
-            }
-        }
-        for number in (0..draft.mounts.len()).rev() {
-            if let Some(candidate) = draft.without_mount(number) {
-                let lower = |call: &mut Call| call.mount -= u64::from(call.mount > number as u64);
-                let stays = !matches!(&self.best, Case::Call(call) if call.mount == number as u64);
-                if stays && self.attempt_draft(&candidate, lower) {
-                    draft = candidate;
-                }
-            }
-        }
-        for number in (0..draft.nodes.len()).rev() {
-            if self.spent() {
-                return;
-            }
-            if let Some(candidate) = draft.without_node(number) {
-                let lower = |call: &mut Call| call.node -= u64::from(call.node > number as u64);
-                let stays = !matches!(&self.best, Case::Call(call) if call.node == number as u64);
-                if stays && self.attempt_draft(&candidate, lower) {
-                    draft = candidate;
-                }
+                Node::File => {}
             }
         }
     }
 
-    /// Another node in the draft's place of that number.
-    fn attempt_node(&mut self, draft: &mut Draft, number: usize, node: DraftNode) -> bool {
-        let mut candidate = draft.clone();
+    /// The tree without a record that the handle does not name; its number there
+    /// is lowered with the others.
+    fn attempt_without(
+        &mut self,
+        tree: &mut Tree,
+        candidate: Option<Tree>,
+        gone: u64,
+        field: fn(&mut Call) -> &mut u64,
+    ) {
+        let Some(candidate) = candidate else { return };
+        let is_named = match &self.best {
+            Case::Call(call) => *field(&mut call.clone()) == gone,
+            Case::Table(_) => false,
+        };
+        let lower = |call: &mut Call| *field(call) -= u64::from(*field(call) > gone);
+        if !is_named && self.attempt_tree(&candidate, lower) {
+            *tree = candidate;
+        }
+    }
+
+    /// Another node in the tree's place of that number.
+    fn attempt_node(&mut self, tree: &mut Tree, number: usize, node: Node) -> bool {
+        let mut candidate = tree.clone();
         candidate.nodes[number] = node;
-        let helped = self.attempt_draft(&candidate, |_| {});
+        let helped = self.attempt_tree(&candidate, |_| {});
         if helped {
-            *draft = candidate;
+            *tree = candidate;
         }
         helped
     }
 
     /// Takes runs of names out of a directory, long ones first.
-    fn shrink_entries(&mut self, draft: &mut Draft, directory: usize, names: &[Vec<u8>]) {
+    fn shrink_entries(&mut self, tree: &mut Tree, directory: usize, names: &[Vec<u8>]) {
         let mut run = names.len();
         while run > 0 {
             for gone in names.chunks(run) {
                 if self.spent() {
                     return;
                 }
-                let DraftNode::Directory { parent, entries } = &draft.nodes[directory] else {
+                let Node::Directory { parent, entries } = &tree.nodes[directory] else {
                     return;
                 };
                 let (parent, mut entries) = (*parent, entries.clone());
                 let before = entries.len();
                 // The names are sorted, so a run lies between its ends.
-                entries.retain(|name, _| Some(name) < gone.first() || Some(name) > gone.last());
+                let stays = |Entry { name, .. }: &Entry| {
+                    Some(&name.bytes) < gone.first() || Some(&name.bytes) > gone.last()
+                };
+                entries.retain(stays);
                 if entries.len() < before {
-                    let node = DraftNode::Directory { parent, entries };
-                    self.attempt_node(draft, directory, node);
+                    self.attempt_node(tree, directory, Node::Directory { parent, entries });
                 }
             }
             run /= 2;
@@ -227,10 +242,7 @@ impl Shrinker<'_> {
     fn shrink_bytes(&mut self) {
         let with = |best: &Case, image: Vec<u8>| match best {
             Case::Table(_) => Case::Table(image),
-            Case::Call(call) => Case::Call(Call {
-                image,
-                ..call.clone()
-            }),
+            Case::Call(call) => Case::Call(Call { image, ..call.clone() }),
         };
         for length in [0, 19, 20, self.image().len() / 2] {
             let mut image = self.image().to_vec();
@@ -269,11 +281,9 @@ impl Shrinker<'_> {
 /// An image without one node, mount, entry or text byte (parts 0 to 3), its
 /// header made right, all other numbers as they are.
 fn without_record(image: &[u8], part: usize, index: usize) -> Option<Vec<u8>> {
-    let number = |at: usize, width: usize| {
-        let field = image.get(at..at + width)?.iter().rev();
-        Some(field.fold(0, |sum, byte| (sum << 8) | usize::from(*byte)))
-    };
+    let number = |at, width| get(image, at, width).map(|number| number as usize);
     let counts = [number(4, 2)?, number(6, 2)?, number(8, 2)?, number(12, 4)?];
+    number(16, 4)?;
     let widths = [12, 8, 8, 1];
     if index >= counts[part] {
         return None;
@@ -284,13 +294,8 @@ fn without_record(image: &[u8], part: usize, index: usize) -> Option<Vec<u8>> {
     smaller.extend(image.get(at + widths[part]..)?);
     let (field, width) = [(4, 2), (6, 2), (8, 2), (12, 4)][part];
     let total = smaller.len();
-    for (field, width, number) in [(field, width, counts[part] - 1), (16, 4, total)] {
-        let mut bytes = Vec::new();
-        put(&mut bytes, number, width);
-        smaller
-            .get_mut(field..field + width)?
-            .copy_from_slice(&bytes);
-    }
+    set(&mut smaller, field, width, counts[part] - 1);
+    set(&mut smaller, 16, 4, total);
     Some(smaller)
 }
 
@@ -306,18 +311,15 @@ fn shorter(body: &[u8]) -> Vec<Vec<u8>> {
 #[cfg(test)]
 mod tests {
     use super::*;
-    use crate::faulty::Fault;
+    use crate::faults::Fault;
     use crate::generate::Cases;
     use crate::subject::Planted;
 
     #[test]
     fn a_shrunk_case_still_differs() {
-        for fault in [
-            Fault::HandleByNode,
-            Fault::MagicEnters,
-            Fault::EarlierName,
-            Fault::TailIgnored,
-        ] {
+        for fault in
+            [Fault::HandleByNode, Fault::MagicEnters, Fault::EarlierName, Fault::TailIgnored]
+        {
             let mut subject = Planted(Some(fault));
             let case = Cases::new(3, 5_000, 15_000)
                 .map(|numbered| numbered.case)

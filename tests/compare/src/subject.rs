@@ -1,7 +1,8 @@
 //! What is compared with the resolver: the library through its C functions,
 //! or the faulty resolver.
 
-use crate::faulty::{self, Fault};
+use crate::faults::Fault;
+use crate::faulty;
 
 /// The bytes lent to a call. They are handed over as bytes that could be
 /// written, so that a subject that writes to them is seen.

@@ -1,80 +1,55 @@
-//! The cases of tests/cases, whose answers were worked out by hand. The file
-//! is the input of the program `cases`, which says how it is laid out.
+//! The list of worked cases, asked of both sides.
 
 use crate::case::{Call, Case, Difference};
 use crate::resolver;
 use crate::subject::{Lent, Subject};
+use std::fmt;
 
-const RECORD: usize = 80;
-
+/// A case of the list.
 pub struct Worked {
-    pub name: String,
-    pub case: Case,
-    /// Two numbers for a table check, six for a call.
-    expected: Vec<u64>,
+    listed: data::worked::Worked,
+    case: Case,
 }
 
-fn number(bytes: &[u8], at: usize, width: usize) -> Option<u64> {
-    let bytes = bytes.get(at..at + width)?;
-    Some(
-        bytes
-            .iter()
-            .rev()
-            .fold(0, |number, byte| number << 8 | u64::from(*byte)),
-    )
+pub fn read_file(file: &str) -> Result<Vec<Worked>, String> {
+    Ok(data::worked::read_file(file)?.into_iter().map(Worked::from).collect())
 }
 
-/// The part of the file whose offset and length stand at a place.
-fn part(file: &[u8], at: usize) -> Option<Vec<u8>> {
-    let from = number(file, at, 4)? as usize;
-    let length = number(file, at + 4, 4)? as usize;
-    file.get(from..from + length).map(<[u8]>::to_vec)
+impl From<data::worked::Worked> for Worked {
+    fn from(listed: data::worked::Worked) -> Worked {
+        let image = listed.image.clone();
+        let case = match listed.call.clone() {
+            None => Case::Table(image),
+            Some(data::worked::Call { mount, node, mark, path, how }) => {
+                let (added, added_mark) = (0, false);
+                Case::Call(Call { image, mount, node, mark, path, how, added, added_mark })
+            }
+        };
+        Worked { listed, case }
+    }
 }
 
-fn record(file: &[u8], at: usize) -> Option<Worked> {
-    let is_check = number(file, at, 4)? == 1;
-    let image = part(file, at + 4)?;
-    let case = if is_check {
-        Case::Table(image)
-    } else {
-        Case::Call(Call {
-            image,
-            path: part(file, at + 12)?,
-            how: part(file, at + 20)?,
-            mark: number(file, at + 36, 4)? != 0,
-            mount: number(file, at + 40, 8)?,
-            node: number(file, at + 48, 8)?,
-            added: 0,
-            added_mark: false,
-        })
-    };
-    let count = if is_check { 2 } else { 6 };
-    Some(Worked {
-        name: String::from_utf8(part(file, at + 28)?).ok()?,
-        case,
-        expected: (0..count)
-            .map(|i| number(file, at + 56 + 4 * i, 4))
-            .collect::<Option<_>>()?,
-    })
-}
-
-pub fn read(file: &[u8]) -> Result<Vec<Worked>, String> {
-    let count = number(file, 0, 4).ok_or("a file of cases has a count")?;
-    (0..count as usize)
-        .map(|i| record(file, 4 + RECORD * i).ok_or_else(|| format!("case {i} is cut off")))
-        .collect()
+/// The case as the arguments of `compare replay`.
+impl fmt::Display for Worked {
+    fn fmt(&self, f: &mut fmt::Formatter) -> fmt::Result {
+        self.listed.fmt(f)
+    }
 }
 
 impl Worked {
+    pub fn name(&self) -> &str {
+        &self.listed.name
+    }
+
+    fn difference(&self, what: &'static str, got: Vec<u64>) -> Difference {
+        Difference { what, expected: self.listed.expected.clone(), got }
+    }
+
     fn compare(&self, what: &'static str, got: Vec<u64>) -> Result<(), Difference> {
-        if got == self.expected {
+        if got == self.listed.expected {
             return Ok(());
         }
-        Err(Difference {
-            what,
-            expected: self.expected.clone(),
-            got,
-        })
+        Err(self.difference(what, got))
     }
 
     /// The comparing resolver's answer is the expected one.
@@ -106,10 +81,44 @@ impl Worked {
         if untouched {
             return Ok(());
         }
-        Err(Difference {
-            what: "lent bytes were changed",
-            expected: self.expected.clone(),
-            got,
-        })
+        Err(self.difference("lent bytes were changed", got))
+    }
+}
+
+#[cfg(test)]
+mod tests {
+    use super::*;
+    use crate::faults::Fault;
+    use crate::subject::Planted;
+    use data::worked::LIST;
+
+    fn list() -> Vec<Worked> {
+        read_file(&format!("{}/../../{LIST}", env!("CARGO_MANIFEST_DIR"))).expect("the list")
+    }
+
+    #[test]
+    fn both_shapes_answer_as_the_list_says() {
+        for worked in list() {
+            for compared in [worked.compare_resolver(), worked.compare_subject(&mut Planted(None))]
+            {
+                if let Err(difference) = compared {
+                    let Difference { what, expected, got } = difference;
+                    panic!(
+                        "{}: {what}: expected {expected:?}, got {got:?}\n{worked}",
+                        worked.name()
+                    );
+                }
+            }
+        }
+    }
+
+    #[test]
+    fn each_fault_is_found_by_the_case_that_it_names() {
+        let cases = list();
+        for fault in Fault::ALL {
+            let named = cases.iter().find(|worked| worked.name() == fault.found_by());
+            let named = named.unwrap_or_else(|| panic!("{fault:?} names no case"));
+            assert!(named.compare_subject(&mut Planted(Some(*fault))).is_err(), "{fault:?}");
+        }
     }
 }

@@ -1,0 +1,116 @@
+//! The faults that can be planted in the resolver of `faulty`: what each is, and
+//! the worked case (docs/CASES.md) that shows it best.
+
+/// Declares the faults.
+macro_rules! faults {
+    ($($name:ident: $line:literal, $case:literal;)*) => {
+        #[derive(Clone, Copy, Debug, PartialEq, Eq)]
+        pub enum Fault { $($name),* }
+
+        impl Fault {
+            pub const ALL: &'static [Fault] = &[$(Fault::$name),*];
+
+            /// What the fault is.
+            pub fn line(self) -> &'static str {
+                match self { $(Fault::$name => $line),* }
+            }
+
+            /// The name of a worked case that finds it.
+            pub fn found_by(self) -> &'static str {
+                match self { $(Fault::$name => $case),* }
+            }
+        }
+    };
+}
+
+faults! {
+    // The slips of RULES 14.
+    HandleByNode: "the handle is told by its node alone", "slip-handle-by-node";
+    FoldedText: "a name and the \"..\" after it are folded as text", "slip-folded-link";
+    NoSymlinksUnfollowed: "NO_SYMLINKS refuses an unfollowed last link", "slip-no-symlinks";
+    UnknownFlagIgnored: "an unknown bit of flags is ignored", "flags-bit-0";
+    UnknownResolveIgnored: "an unknown bit of resolve is ignored", "resolve-bit-5";
+    UnknownLow32: "unknown bits are looked for in the low 32 alone", "flags-bit-32";
+    NoXdevAtStart: "NO_XDEV refuses an absolute path to another mount", "slip-no-xdev-start";
+    // Before the walk.
+    HighestUnknownBit: "the highest unknown bit is named", "flags-bits-0-63";
+    TailIgnored: "bytes after the 24th are not looked at", "how-25-byte-25-set";
+    PaddingIgnored: "the padding is not looked at", "padding-byte-11";
+    ScopesLate: "both scopes are refused only after the path's length", "order-scopes-path";
+    HowBound: "an open_how of 4,096 bytes is refused", "how-4096-zeros";
+    PathBound: "a path of 4,095 bytes is refused", "path-4095-dots";
+    ZeroByteFirst: "a zero byte is refused before the path's length", "order-path-zero";
+    CoveredHandle: "a covered handle is let through", "handle-covered";
+    HandleAnywhere: "a handle may lie outside its mount", "handle-outside-mount-1";
+    HandleKindLate: "the handle's place is tested before its kind", "order-kind-under";
+    HandleCut: "the handle's numbers are cut to 32 bits", "handle-mount-2-to-32";
+    // The walk.
+    StartAtTop: "an absolute path begins at mount 0's root under IN_ROOT too", "start-in-root";
+    NoStartInRoot: "Start is not met under IN_ROOT", "start-mark-in-root";
+    NoEscapeInRoot: "Escape is not met under IN_ROOT", "escape-mark-in-root";
+    EscapeOnce: "Escape is not met on coming back to the handle", "dotdot-back-at-handle-beneath";
+    RootsParent: "\"..\" at a mount's root goes to the root's parent", "climb-from-handle";
+    ClimbNotMet: "\"..\" climbs without a Cross", "climb-no-xdev";
+    ParentNotEntered: "\"..\" enters no mount", "parent-entered";
+    DotEnters: "\".\" on a covered place enters the mount", "magic-covered-target-dot";
+    CoverByNode: "a place is covered whatever its mount", "slip-cover-by-node";
+    NamePrefix: "a name is found by its beginning", "name-beginning";
+    LongNameAbsent: "a name of over 255 bytes is just absent", "name-256";
+    RefusedNameUncounted: "a name refused at lookup is not counted", "name-absent";
+    LastInOwnText: "a component is last if only slashes follow in its own text",
+        "last-in-every-text";
+    NofollowBeatsSlash: "O_NOFOLLOW wins over a slash ending the path", "nofollow-slash";
+    FortyFirstLink: "the 41st link is let through", "links-tail-41";
+    LimitAfterEvents: "the 41st link is refused only after its events", "links-41st-magic-beneath";
+    CountedAtEvent: "a link counts as followed at its event", "link-no-symlinks";
+    MagicUncounted: "magic links are not counted", "magic";
+    SlashBodyUncounted: "a body of slashes only is not counted", "body-slash";
+    MagicEnters: "a mount on a magic link's target is entered", "magic-covered-target";
+    MagicFileHere: "a magic link's file is put in the current mount", "magic-file-in-its-mount";
+    MagicBeforeLink: "Magic is met before Link", "link-before-magic";
+    InRootBeforeRow: "IN_ROOT refuses a magic link before its row is tried", "magic-in-root-mark";
+    MagicFromRoot: "Magic compares the target's mount with the root's",
+        "magic-same-mount-1-no-xdev";
+    JumpFromHandle: "Jump compares the handle's mount with the root's", "jump-after-start-no-xdev";
+    JumpToTop: "an absolute body begins at mount 0's root under IN_ROOT too", "jump-in-root";
+    JumpNoXdev: "Jump is forbidden by NO_XDEV in every mount", "jump-same-mount-no-xdev";
+    BodyFromRoot: "a relative body is read from the root", "relative-body";
+    EscapeRowSwapped: "BENEATH stands before the mark at Escape", "escape-mark-beneath";
+    JumpRowSwapped: "BENEATH stands before the mark at Jump", "jump-row-mark-beneath";
+    MagicRowSwapped: "NO_MAGICLINKS stands before the mark at Magic",
+        "magic-row-mark-no-magiclinks";
+    MagicXdevFirst: "NO_XDEV stands before NO_MAGICLINKS at Magic",
+        "magic-row-no-magiclinks-no-xdev";
+    NotDirectoryCounted: "ENOTDIR comes after the next component is counted", "not-directory";
+    RequirementDropped: "a nested last link drops the directory requirement", "required-by-body";
+    RequirementSpread: "a body's slash requires a directory though its link is not last",
+        "not-required-by-body-of-other-link";
+    LinkBeforeDirectory: "ELOOP for an unfollowed link comes before ENOTDIR", "end-link-required";
+    TouchedPath: "the last byte of a path is changed", "P1";
+    // The table.
+    MountZeroCovers: "mount 0 covers its root", "handle-root";
+    TextBound: "a name may not end where the text ends", "rule-5-name-to-the-end";
+    BodyBound: "a body of 4,095 bytes is refused", "rule-4-body-4095";
+    NameBound: "a name of 255 bytes is refused", "rule-5-name-255";
+    MostNodes: "4,096 nodes are refused", "rule-3-4096-nodes";
+    MostMounts: "256 mounts are refused", "rule-3-256-mounts";
+    MostEntries: "4,096 entries are refused", "rule-3-4096-entries";
+    LongestImage: "an image of 65,536 bytes is refused", "rule-1-65536";
+    WrappingSums: "sums wrap at 32 bits", "rule-3-wraps";
+    EarlierRecord: "a clash of mounts is charged to the earlier record", "rule-6-clash-last";
+    EarlierName: "two names out of order are charged to the earlier record",
+        "rule-5-descending-first";
+    EqualNames: "a directory may hold a name twice", "rule-5-equal-first";
+    SlashInName: "a name may hold a slash", "rule-5-slash-first";
+    DotsNamed: "a name may be \"..\"", "rule-5-dots-first";
+    MountField: "the last field of a mount is not looked at", "rule-6-field-first";
+    SignedNames: "names are ordered as signed bytes", "rule-5-bytes-unsigned";
+    EmptyFirst: "an empty directory's first is not looked at", "rule-4-first-less-last";
+    SumAtLast: "a wrong sum of counts is charged to the last node", "rule-4-sum-more";
+    TopNamed: "the top of a tree may be named in itself", "rule-5-top-first";
+    CutMagic: "a magic link's numbers are cut to 16 bits", "rule-7-mount-65536";
+    MagicAnywhere: "a magic link's directory may lie outside the mount",
+        "rule-7-target-outside-last";
+    PointAtRoot: "a mount point may be the parent's root", "rule-6-point-root-first";
+    ClashAcrossParents: "mount points clash whatever their parents", "rule-6-many-other-parent";
+}

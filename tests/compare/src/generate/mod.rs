@@ -1,0 +1,133 @@
+//! Seeded inputs: tables in many shapes, damage to them, and calls.
+//!
+//! Most calls are meant to reach the walk and go on for several components,
+//! so paths are grown along the table with the resolver itself. A case is
+//! fixed by the seed, its stream (tables or calls) and its number.
+//!
+//! A table begins with nodes (`nodes`), which are named (`names`), mounted
+//! (`mounts`) and given targets and bodies (`bodies`), with links that lead on and
+//! on (`chains`); or it is as large as can be (`limits`). Then it may be spoiled
+//! (`damage`). A call has an open_how (`hows`), a handle (`handles`) and a path
+//! (`paths`).
+
+mod bodies;
+mod calls;
+mod chains;
+mod damage;
+mod handles;
+mod hows;
+mod limits;
+mod mounts;
+mod names;
+mod nodes;
+mod paths;
+mod tables;
+#[cfg(test)]
+mod tests;
+
+use crate::case::Case;
+use crate::resolver::accept;
+use calls::call;
+use damage::damage;
+use data::dice::Dice;
+use std::collections::VecDeque;
+use tables::table;
+
+const TABLES_A_GROUP: u64 = 4;
+const CALLS_A_GROUP: u64 = 12;
+
+/// Some checks of one table: as it is, and damaged.
+fn table_group(seed: u64, group: u64) -> Vec<Case> {
+    let mut dice = Dice::new(seed, 1, group);
+    let image = table(&mut dice);
+    let mut cases = vec![Case::Table(image.clone())];
+    while (cases.len() as u64) < TABLES_A_GROUP {
+        cases.push(Case::Table(damage(&mut dice, &image)));
+    }
+    cases
+}
+
+/// Some calls on one table.
+fn call_group(seed: u64, group: u64) -> Vec<Case> {
+    let mut dice = Dice::new(seed, 2, group);
+    let image = table(&mut dice);
+    let table = accept(&image).ok();
+    (0..CALLS_A_GROUP).map(|_| Case::Call(call(&mut dice, &image, table.as_ref()))).collect()
+}
+
+/// The cases of a group, by the seed and its number.
+type Group = fn(u64, u64) -> Vec<Case>;
+
+/// A case with its stream and its number there.
+pub struct Numbered {
+    pub stream: &'static str,
+    pub number: u64,
+    pub case: Case,
+}
+
+/// One case by itself, without those before it.
+pub fn one(seed: u64, stream: &str, number: u64) -> Option<Case> {
+    let (group, many) = match stream {
+        "table" => (table_group as Group, TABLES_A_GROUP),
+        "call" => (call_group as Group, CALLS_A_GROUP),
+        _ => return None,
+    };
+    group(seed, number / many).into_iter().nth((number % many) as usize)
+}
+
+/// All the cases of a run, a group of tables and a group of calls in turn.
+pub struct Cases {
+    seed: u64,
+    tables: Stream,
+    calls: Stream,
+    ready: VecDeque<Numbered>,
+}
+
+struct Stream {
+    name: &'static str,
+    group: Group,
+    a_group: u64,
+    made: u64,
+    wanted: u64,
+}
+
+impl Stream {
+    /// The next group, if more are wanted; a last one may hold more than that.
+    fn next(&mut self, seed: u64) -> Vec<Numbered> {
+        if self.made >= self.wanted {
+            return Vec::new();
+        }
+        let first = self.made;
+        self.made += self.a_group;
+        let numbered = (first..).zip((self.group)(seed, first / self.a_group));
+        numbered
+            .take_while(|(number, _)| *number < self.wanted)
+            .map(|(number, case)| Numbered { stream: self.name, number, case })
+            .collect()
+    }
+}
+
+impl Cases {
+    pub fn new(seed: u64, tables: u64, calls: u64) -> Cases {
+        let stream =
+            |name, group, a_group, wanted| Stream { name, group, a_group, made: 0, wanted };
+        Cases {
+            seed,
+            tables: stream("table", table_group, TABLES_A_GROUP, tables),
+            calls: stream("call", call_group, CALLS_A_GROUP, calls),
+            ready: VecDeque::new(),
+        }
+    }
+}
+
+impl Iterator for Cases {
+    type Item = Numbered;
+
+    fn next(&mut self) -> Option<Numbered> {
+        if self.ready.is_empty() {
+            self.ready.extend(self.tables.next(self.seed));
+            self.ready.extend(self.calls.next(self.seed));
+        }
+        self.ready.pop_front()
+    }
+}
