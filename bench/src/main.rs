@@ -39,8 +39,6 @@ mod agree;
 #[cfg(feature = "proved")]
 mod calls;
 mod chart;
-#[path = "../../bindings/rust/src/declared.rs"]
-mod declared;
 mod growth;
 mod hostile;
 mod linear;

@@ -47,26 +47,15 @@ impl Call {
     }
 
     pub fn lent(&self) -> Lent {
-        Lent {
-            image: self.image.clone(),
-            path: self.path.clone(),
-            how: self.how.clone(),
-        }
+        Lent { image: self.image.clone(), path: self.path.clone(), how: self.how.clone() }
     }
 
     fn place(&self) -> Place {
-        Place {
-            mount: self.mount,
-            node: self.node,
-        }
+        Place { mount: self.mount, node: self.node }
     }
 
     pub fn handle(&self) -> Handle {
-        Handle {
-            mount: self.mount,
-            node: self.node,
-            mark: self.mark,
-        }
+        Handle { mount: self.mount, node: self.node, mark: self.mark }
     }
 
     /// The resolver's own answer.
@@ -144,11 +133,7 @@ fn same(what: &'static str, expected: &[u64], got: Vec<u64>) -> Result<(), Diffe
     if expected == got {
         return Ok(());
     }
-    Err(Difference {
-        what,
-        expected: expected.to_vec(),
-        got,
-    })
+    Err(Difference { what, expected: expected.to_vec(), got })
 }
 
 fn unchanged(before: &Lent, after: &Lent) -> Result<(), Difference> {
@@ -178,11 +163,7 @@ fn compare_table(subject: &mut dyn Subject, image: &[u8]) -> Result<Alike, Diffe
     let mut lent = image.to_vec();
     let got = subject.check(&mut lent);
     same("table check", &expected, got)?;
-    same(
-        "the lent image was changed",
-        &[0],
-        vec![u64::from(lent != image)],
-    )?;
+    same("the lent image was changed", &[0], vec![u64::from(lent != image)])?;
     Ok(Alike::Check(expected))
 }
 
@@ -203,25 +184,14 @@ fn compare_call(subject: &mut dyn Subject, call: &Call) -> Result<Alike, Differe
     let added = Restrictions::new(call.added_mark, call.added_bits());
     let second = second_answer(first, &events, set, added);
     let again = call.second();
-    ask(
-        &again,
-        &second,
-        "demand 3: the call with restrictions added",
-    )?;
+    ask(&again, &second, "demand 3: the call with restrictions added")?;
     // The walk itself, run with the added ones, must say the same.
     same(
         "demand 3 within the comparing resolver itself",
         &second.numbers(),
         again.answer().0.numbers().to_vec(),
     )?;
-    let stopped = events
-        .iter()
-        .find(|met| met.event.forbidden(added).is_some())
-        .map(|met| met.event);
-    Ok(Alike::Call {
-        first,
-        events,
-        second,
-        stopped,
-    })
+    let stopped =
+        events.iter().find(|met| met.event.forbidden(added).is_some()).map(|met| met.event);
+    Ok(Alike::Call { first, events, second, stopped })
 }

@@ -73,11 +73,7 @@ impl Draft {
     }
 
     pub fn mount(&mut self, root: usize, parent: usize, point: usize) -> usize {
-        self.mounts.push(DraftMount {
-            root,
-            parent,
-            point,
-        });
+        self.mounts.push(DraftMount { root, parent, point });
         self.mounts.len() - 1
     }
 
@@ -100,15 +96,11 @@ impl Draft {
     }
 
     pub fn directories(&self) -> Vec<usize> {
-        (0..self.nodes.len())
-            .filter(|number| self.is_directory(*number))
-            .collect()
+        (0..self.nodes.len()).filter(|number| self.is_directory(*number)).collect()
     }
 
     pub fn files(&self) -> Vec<usize> {
-        (0..self.nodes.len())
-            .filter(|number| self.nodes[*number] == DraftNode::File)
-            .collect()
+        (0..self.nodes.len()).filter(|number| self.nodes[*number] == DraftNode::File).collect()
     }
 
     pub fn is_under(&self, node: usize, root: usize) -> bool {
@@ -126,20 +118,13 @@ impl Draft {
     /// The image. With `shared`, texts that are there already are used again,
     /// also where they lie inside another one.
     pub fn image(&self, shared: bool) -> Vec<u8> {
-        let mut text = Text {
-            bytes: self.before.clone(),
-            known: HashMap::new(),
-            shared,
-        };
+        let mut text = Text { bytes: self.before.clone(), known: HashMap::new(), shared };
         let mut nodes = Vec::new();
         let mut entries = Vec::new();
         let mut entry_count = 0usize;
         for node in &self.nodes {
             let (kind, parent, first, count) = match node {
-                DraftNode::Directory {
-                    parent,
-                    entries: names,
-                } => {
+                DraftNode::Directory { parent, entries: names } => {
                     let first = entry_count;
                     for (name, number) in names {
                         let offset = text.place(name);
@@ -198,15 +183,9 @@ impl Draft {
                 },
                 FILE => DraftNode::File,
                 LINK => DraftNode::Link(
-                    table
-                        .text_part(node.first, node.count)
-                        .unwrap_or(b".")
-                        .to_vec(),
+                    table.text_part(node.first, node.count).unwrap_or(b".").to_vec(),
                 ),
-                _ => DraftNode::Magic {
-                    mount: node.first as usize,
-                    node: node.count as usize,
-                },
+                _ => DraftNode::Magic { mount: node.first as usize, node: node.count as usize },
             })
             .collect();
         let mounts = table
@@ -218,32 +197,20 @@ impl Draft {
                 point: mount.point as usize,
             })
             .collect();
-        Draft {
-            nodes,
-            mounts,
-            before: Vec::new(),
-            after: Vec::new(),
-        }
+        Draft { nodes, mounts, before: Vec::new(), after: Vec::new() }
     }
 
     /// Without a node that nothing refers to; none if something does.
     pub fn without_node(&self, gone: usize) -> Option<Draft> {
-        let used = self
-            .mounts
-            .iter()
-            .any(|m| m.root == gone || m.point == gone)
-            || self
-                .nodes
-                .iter()
-                .enumerate()
-                .any(|(number, node)| match node {
-                    DraftNode::Directory { parent, entries } => {
-                        (*parent == gone && number != gone)
-                            || entries.values().any(|named| *named == gone)
-                    }
-                    DraftNode::Magic { node, .. } => *node == gone,
-                    _ => false,
-                });
+        let used = self.mounts.iter().any(|m| m.root == gone || m.point == gone)
+            || self.nodes.iter().enumerate().any(|(number, node)| match node {
+                DraftNode::Directory { parent, entries } => {
+                    (*parent == gone && number != gone)
+                        || entries.values().any(|named| *named == gone)
+                }
+                DraftNode::Magic { node, .. } => *node == gone,
+                _ => false,
+            });
         if used || gone >= self.nodes.len() {
             return None;
         }
@@ -319,10 +286,7 @@ impl Text {
             }
             // The search inside other texts is slow, so only in short ones.
             if self.bytes.len() <= 512 && !part.is_empty() {
-                let inside = self
-                    .bytes
-                    .windows(part.len())
-                    .position(|window| window == part);
+                let inside = self.bytes.windows(part.len()).position(|window| window == part);
                 if let Some(offset) = inside {
                     return offset;
                 }

@@ -188,11 +188,7 @@ impl<'a> Raw<'a> {
     /// name offset, name length, node
     fn entry(&self, entry: u64) -> (u64, u64, u64) {
         let at = 20 + 12 * self.nodes + 8 * self.mounts + 8 * entry;
-        (
-            self.field(at, 4),
-            self.field(at + 4, 2),
-            self.field(at + 6, 2),
-        )
+        (self.field(at, 4), self.field(at + 4, 2), self.field(at + 6, 2))
     }
 
     /// A part of the text; empty if it is not inside.
@@ -228,14 +224,7 @@ impl<'a> Raw<'a> {
     }
 
     fn read(fault: Option<Fault>, image: &'a [u8]) -> Result<Raw<'a>, [u64; 2]> {
-        let mut raw = Raw {
-            fault,
-            image,
-            nodes: 0,
-            mounts: 0,
-            entries: 0,
-            text: 0,
-        };
+        let mut raw = Raw { fault, image, nodes: 0, mounts: 0, entries: 0, text: 0 };
         let less = |fault| u64::from(raw.has(fault));
         let length = image.len() as u64;
         if length < 20 || length > 65_536 - less(Fault::LongestImage) {
@@ -403,11 +392,7 @@ impl<'a> Raw<'a> {
     }
 
     fn target(&self, magic: u64) -> (u64, u64) {
-        let cut = if self.has(Fault::CutMagic) {
-            0xFFFF
-        } else {
-            u64::MAX
-        };
+        let cut = if self.has(Fault::CutMagic) { 0xFFFF } else { u64::MAX };
         (self.first(magic) & cut, self.count(magic) & cut)
     }
 
@@ -544,9 +529,8 @@ fn answer(
 fn folded(path: &[u8]) -> Vec<u8> {
     let mut kept: Vec<&[u8]> = Vec::new();
     for part in path.split(|byte| *byte == b'/') {
-        let named = kept
-            .last()
-            .is_some_and(|last| !last.is_empty() && *last != b"." && *last != b"..");
+        let named =
+            kept.last().is_some_and(|last| !last.is_empty() && *last != b"." && *last != b"..");
         if part == b".." && named {
             kept.pop();
         } else {
@@ -636,11 +620,7 @@ impl Walk<'_> {
             if self.has(Fault::NoXdevAtStart) && self.set(NO_XDEV) && elsewhere {
                 return Err(EXDEV);
             }
-            self.here = if self.has(Fault::StartAtTop) {
-                self.top
-            } else {
-                self.root()
-            };
+            self.here = if self.has(Fault::StartAtTop) { self.top } else { self.root() };
         }
         while !only_slashes(self.rest()) {
             if self.raw.kind(self.here.1) != 1 {
@@ -666,10 +646,8 @@ impl Walk<'_> {
     /// Takes the next component off the text.
     fn take(&mut self) -> Vec<u8> {
         let bytes = self.rest().iter().copied();
-        let name: Vec<u8> = bytes
-            .skip_while(|byte| *byte == b'/')
-            .take_while(|byte| *byte != b'/')
-            .collect();
+        let name: Vec<u8> =
+            bytes.skip_while(|byte| *byte == b'/').take_while(|byte| *byte != b'/').collect();
         let slashes = self.rest().iter().take_while(|byte| **byte == b'/').count();
         self.at += slashes + name.len();
         self.components += 1;
@@ -818,11 +796,7 @@ impl Walk<'_> {
         if self.set(IN_ROOT) && self.has(Fault::InRootBeforeRow) {
             return Err(EXDEV);
         }
-        let current = if self.has(Fault::MagicFromRoot) {
-            self.root().0
-        } else {
-            self.here.0
-        };
+        let current = if self.has(Fault::MagicFromRoot) { self.root().0 } else { self.here.0 };
         let mark = (self.mark, ENOENT);
         let no_magic = (self.set(NO_MAGICLINKS), ELOOP);
         let no_xdev = (self.set(NO_XDEV) && target.0 != current, EXDEV);
@@ -861,18 +835,10 @@ impl Walk<'_> {
             return Ok(());
         }
         self.outward(self.has(Fault::JumpRowSwapped))?;
-        let current = if self.has(Fault::JumpFromHandle) {
-            self.handle.0
-        } else {
-            self.here.0
-        };
+        let current = if self.has(Fault::JumpFromHandle) { self.handle.0 } else { self.here.0 };
         let leaves = current != self.root().0 || self.has(Fault::JumpNoXdev);
         self.row([(self.set(NO_XDEV) && leaves, EXDEV)])?;
-        self.here = if self.has(Fault::JumpToTop) {
-            self.top
-        } else {
-            self.root()
-        };
+        self.here = if self.has(Fault::JumpToTop) { self.top } else { self.root() };
         Ok(())
     }
 }

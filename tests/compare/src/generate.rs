@@ -69,20 +69,8 @@ impl Dice {
 /// Few names, so that the same ones stand in many directories and a wrong
 /// step still finds something.
 const COMMON: [&str; 5] = ["a", "b", "c", "d", "e"];
-const ODD: [&[u8]; 12] = [
-    b"ab",
-    b"a.",
-    b"...",
-    b"..a",
-    b".a",
-    b"-",
-    b" ",
-    b"\x80",
-    b"\xff",
-    b"\x01",
-    b"\x7f\x80",
-    b"A",
-];
+const ODD: [&[u8]; 12] =
+    [b"ab", b"a.", b"...", b"..a", b".a", b"-", b" ", b"\x80", b"\xff", b"\x01", b"\x7f\x80", b"A"];
 
 fn name(dice: &mut Dice) -> Vec<u8> {
     match dice.below(100) {
@@ -178,11 +166,8 @@ fn deep(dice: &mut Dice) -> Draft {
     let mut draft = Draft::default();
     let mut below = draft.directory(None);
     for _ in 0..dice.from(3, 25) {
-        let parent = if dice.percent(90) {
-            Some(below)
-        } else {
-            dice.choose(&draft.directories()).copied()
-        };
+        let parent =
+            if dice.percent(90) { Some(below) } else { dice.choose(&draft.directories()).copied() };
         below = draft.directory(parent);
         strew(dice, &mut draft, 25);
     }
@@ -195,11 +180,8 @@ fn tall(dice: &mut Dice) -> Draft {
     let mut draft = Draft::default();
     let mut below = draft.directory(None);
     for _ in 0..dice.from(60, 200) {
-        let parent = if dice.percent(97) {
-            Some(below)
-        } else {
-            dice.choose(&draft.directories()).copied()
-        };
+        let parent =
+            if dice.percent(97) { Some(below) } else { dice.choose(&draft.directories()).copied() };
         below = draft.directory(parent);
     }
     for _ in 0..dice.from(5, 40) {
@@ -291,12 +273,8 @@ fn crowded(dice: &mut Dice) -> Draft {
         let body = dice.choose(&bodies).cloned().unwrap_or_default();
         draft.link(&body);
     }
-    draft.before = (0..dice.from(1, 90))
-        .map(|_| dice.pick(b"\0/.ab"))
-        .collect();
-    draft.after = (0..dice.from(1, 90))
-        .map(|_| dice.pick(b"\0/.ab"))
-        .collect();
+    draft.before = (0..dice.from(1, 90)).map(|_| dice.pick(b"\0/.ab")).collect();
+    draft.after = (0..dice.from(1, 90)).map(|_| dice.pick(b"\0/.ab")).collect();
     draft
 }
 
@@ -329,9 +307,7 @@ fn finish(dice: &mut Dice, draft: &mut Draft) {
 fn name_nodes(dice: &mut Dice, draft: &mut Draft) {
     let named: Vec<usize> = {
         let entries = draft.directories();
-        let entries = entries
-            .iter()
-            .filter_map(|number| draft.entries_of(*number));
+        let entries = entries.iter().filter_map(|number| draft.entries_of(*number));
         entries.flat_map(|names| names.values().copied()).collect()
     };
     let directories = draft.directories();
@@ -346,11 +322,7 @@ fn name_nodes(dice: &mut Dice, draft: &mut Draft) {
             false => dice.pick(&[0, 1, 1, 1, 1, 1, 1, 1, 2, 2]),
         };
         for _ in 0..times {
-            let directory = if draft.is_directory(node) {
-                parent
-            } else {
-                dice.pick(&directories)
-            };
+            let directory = if draft.is_directory(node) { parent } else { dice.pick(&directories) };
             // A taken name is tried again with others.
             let mut tries = 0..8;
             while tries.next().is_some() && !draft.name(directory, &name(dice), node) {}
@@ -459,11 +431,7 @@ fn body(
     link: usize,
 ) -> Vec<u8> {
     let top = draft.mounts.first().map_or(0, |mount| mount.root);
-    let (directory, own) = namers
-        .get(link)
-        .cloned()
-        .flatten()
-        .unwrap_or((top, b"a".to_vec()));
+    let (directory, own) = namers.get(link).cloned().flatten().unwrap_or((top, b"a".to_vec()));
     let steps = dice.pick(&[1, 1, 1, 2, 2, 3, 5]);
     let mut body = match dice.below(100) {
         0..=36 => ramble(dice, draft, directory, steps),
@@ -497,10 +465,7 @@ fn body(
 
 /// A body of nearly or exactly the longest length.
 fn long_body(dice: &mut Dice) -> Vec<u8> {
-    let mut body = dice
-        .pick(&["./", "../", "/", "a/"])
-        .repeat(4095)
-        .into_bytes();
+    let mut body = dice.pick(&["./", "../", "/", "a/"]).repeat(4095).into_bytes();
     body.truncate(dice.from(4090, 4095));
     body
 }
@@ -607,19 +572,14 @@ fn add_chain(dice: &mut Dice, draft: &mut Draft) {
         let link = draft.link(body.as_bytes());
         draft.name(directory, format!("k{number:02}").as_bytes(), link);
     }
-    let names: Vec<&Vec<u8>> = draft
-        .entries_of(directory)
-        .into_iter()
-        .flat_map(|names| names.keys())
-        .collect();
+    let names: Vec<&Vec<u8>> =
+        draft.entries_of(directory).into_iter().flat_map(|names| names.keys()).collect();
     let end = match dice.below(10) {
         0 => "k00".into(),
         1 => "..".into(),
         2 => "/".into(),
         3 => "missing".into(),
-        _ => dice
-            .choose(&names)
-            .map_or(b".".to_vec(), |name| name.to_vec()),
+        _ => dice.choose(&names).map_or(b".".to_vec(), |name| name.to_vec()),
     };
     let last = if dice.percent(50) {
         draft.link(&end)
@@ -628,11 +588,7 @@ fn add_chain(dice: &mut Dice, draft: &mut Draft) {
     } else {
         // Under the root of mount 0 or, being that root, at least in it.
         let root = draft.mounts.first().map_or(0, |mount| mount.root);
-        let target = if draft.is_under(directory, root) {
-            directory
-        } else {
-            root
-        };
+        let target = if draft.is_under(directory, root) { directory } else { root };
         draft.magic(0, target)
     };
     draft.name(directory, format!("k{length:02}").as_bytes(), last);
@@ -750,10 +706,7 @@ struct Layout {
 
 fn number_at(image: &[u8], at: usize, width: usize) -> usize {
     let field = image.get(at..at + width).unwrap_or(&[]);
-    field
-        .iter()
-        .rev()
-        .fold(0, |sum, byte| (sum << 8) | usize::from(*byte))
+    field.iter().rev().fold(0, |sum, byte| (sum << 8) | usize::from(*byte))
 }
 
 fn set_number(image: &mut [u8], at: usize, width: usize, number: usize) {
@@ -796,11 +749,7 @@ impl Layout {
             10..=39 => node(dice),
             40..=69 if self.entries > 0 => {
                 let (field, width) = dice.pick(&[(0, 4), (4, 2), (6, 2)]);
-                (
-                    self.entries_at + 8 * dice.below(self.entries) + field,
-                    width,
-                    8,
-                )
+                (self.entries_at + 8 * dice.below(self.entries) + field, width, 8)
             }
             _ if self.mounts > 0 => {
                 let field = dice.pick(&[0, 2, 4, 6]);
@@ -927,9 +876,8 @@ fn wrapping_header(dice: &mut Dice, image: &mut [u8], layout: &Layout) {
 
 /// Directory counts that sum to the same if sums wrap at 32 bits.
 fn wrapping_counts(dice: &mut Dice, image: &mut [u8], layout: &Layout) {
-    let directories: Vec<usize> = (0..layout.nodes)
-        .filter(|number| number_at(image, 20 + 12 * number, 2) == 1)
-        .collect();
+    let directories: Vec<usize> =
+        (0..layout.nodes).filter(|number| number_at(image, 20 + 12 * number, 2) == 1).collect();
     let half = dice.pick(&[0x8000_0000, 0x4000_0000]);
     let at = |directory: usize| 20 + 12 * directory;
     let Some(first) = dice.choose(&directories).copied() else {
@@ -941,12 +889,7 @@ fn wrapping_counts(dice: &mut Dice, image: &mut [u8], layout: &Layout) {
     for (index, directory) in directories.iter().enumerate() {
         set_number(image, at(*directory) + 4, 4, sum);
         if index + 1 == directories.len() {
-            set_number(
-                image,
-                at(*directory) + 8,
-                4,
-                layout.entries.wrapping_sub(sum),
-            );
+            set_number(image, at(*directory) + 8, 4, layout.entries.wrapping_sub(sum));
         }
         sum += number_at(image, at(*directory) + 8, 4);
     }
@@ -1069,20 +1012,12 @@ fn how_bytes(flags: u64, resolve: u64) -> Vec<u8> {
 
 /// A subset of bits, each with its share in a hundred.
 fn subset(dice: &mut Dice, shares: &[(u64, usize)]) -> u64 {
-    shares
-        .iter()
-        .filter(|(_, share)| dice.percent(*share))
-        .fold(0, |bits, (bit, _)| bits | bit)
+    shares.iter().filter(|(_, share)| dice.percent(*share)).fold(0, |bits, (bit, _)| bits | bit)
 }
 
 /// An open_how that is accepted.
 fn good_how(dice: &mut Dice) -> Vec<u8> {
-    let flags = [
-        (O_DIRECTORY, 12),
-        (O_NOFOLLOW, 25),
-        (O_PATH, 30),
-        (O_CLOEXEC, 10),
-    ];
+    let flags = [(O_DIRECTORY, 12), (O_NOFOLLOW, 25), (O_PATH, 30), (O_CLOEXEC, 10)];
     let flags = subset(dice, &flags);
     let bits = [(NO_XDEV, 10), (NO_MAGICLINKS, 8), (NO_SYMLINKS, 5)];
     let scope = dice.pick(&[0, 0, 0, 0, 0, 0, IN_ROOT, IN_ROOT, IN_ROOT, BENEATH]);
@@ -1164,10 +1099,7 @@ fn good_handle(dice: &mut Dice, table: &Table) -> Place {
             return place;
         }
     }
-    Place {
-        mount: 0,
-        node: table.mounts.first().map_or(0, |mount| mount.root),
-    }
+    Place { mount: 0, node: table.mounts.first().map_or(0, |mount| mount.root) }
 }
 
 fn bad_handle(dice: &mut Dice, table: &Table) -> Place {
@@ -1182,28 +1114,16 @@ fn bad_handle(dice: &mut Dice, table: &Table) -> Place {
         _ => u64::MAX - dice.below(2) as u64,
     };
     match dice.below(6) {
-        0 => Place {
-            mount: beyond(dice, mounts, good.mount),
-            node: good.node,
-        },
-        1 => Place {
-            mount: good.mount,
-            node: beyond(dice, nodes, good.node),
-        },
+        0 => Place { mount: beyond(dice, mounts, good.mount), node: good.node },
+        1 => Place { mount: good.mount, node: beyond(dice, nodes, good.node) },
         // Covered.
         2 => table
             .mounts
             .iter()
             .skip(1 + dice.below(table.mounts.len().saturating_sub(1)))
-            .map(|mount| Place {
-                mount: mount.parent,
-                node: mount.point,
-            })
+            .map(|mount| Place { mount: mount.parent, node: mount.point })
             .next()
-            .unwrap_or(Place {
-                mount: good.mount,
-                node: nodes,
-            }),
+            .unwrap_or(Place { mount: good.mount, node: nodes }),
         // Anything: no directory, not under the root, or good after all.
         _ => Place {
             mount: dice.below(table.mounts.len()) as u64,
@@ -1265,10 +1185,8 @@ impl Growing<'_> {
         let mut chosen = dice.choose(&names);
         if here.is_some_and(|(_, links)| links >= 39) && dice.percent(60) {
             // The next link is one too many: what it is must not matter.
-            let links: Vec<&(&[u8], u64)> = names
-                .iter()
-                .filter(|(_, kind)| *kind != FILE && *kind != DIRECTORY)
-                .collect();
+            let links: Vec<&(&[u8], u64)> =
+                names.iter().filter(|(_, kind)| *kind != FILE && *kind != DIRECTORY).collect();
             chosen = dice.choose(&links).copied().or(chosen);
         }
         for _ in 0..3 {
@@ -1317,15 +1235,9 @@ impl Growing<'_> {
 
 fn good_path(dice: &mut Dice, table: &Table, handle: Place, in_root: bool) -> Vec<u8> {
     // A body of the longest length is as long a path as there can be.
-    let long = table
-        .nodes
-        .iter()
-        .find(|node| node.kind == LINK && node.count == 4095);
+    let long = table.nodes.iter().find(|node| node.kind == LINK && node.count == 4095);
     if let Some(node) = long.filter(|_| dice.percent(25)) {
-        return table
-            .text_part(node.first, node.count)
-            .unwrap_or(b"/")
-            .to_vec();
+        return table.text_part(node.first, node.count).unwrap_or(b"/").to_vec();
     }
     let mut growing = Growing {
         table,
@@ -1409,16 +1321,10 @@ fn call(dice: &mut Dice, image: &[u8], table: Option<&Table>) -> Call {
     // In a few calls many things are wrong at once, for the order of checks.
     let trouble = dice.percent(5);
     let wrong = |dice: &mut Dice, share: usize| dice.percent(if trouble { 40 } else { share });
-    let how = if wrong(dice, 5) {
-        bad_how(dice)
-    } else {
-        good_how(dice)
-    };
+    let how = if wrong(dice, 5) { bad_how(dice) } else { good_how(dice) };
     let resolve = crate::resolver::resolve_field(&how).unwrap_or(0);
     let in_root = resolve & IN_ROOT != 0;
-    let good = table.map_or(Place { mount: 0, node: 0 }, |table| {
-        good_handle(dice, table)
-    });
+    let good = table.map_or(Place { mount: 0, node: 0 }, |table| good_handle(dice, table));
     let handle = match table {
         Some(table) if wrong(dice, 5) => bad_handle(dice, table),
         _ => good,
@@ -1471,9 +1377,7 @@ fn call_group(seed: u64, group: u64) -> Vec<Case> {
     let mut dice = Dice::new(seed, 2, group);
     let image = table(&mut dice);
     let table = accept(&image).ok();
-    (0..CALLS_A_GROUP)
-        .map(|_| Case::Call(call(&mut dice, &image, table.as_ref())))
-        .collect()
+    (0..CALLS_A_GROUP).map(|_| Case::Call(call(&mut dice, &image, table.as_ref()))).collect()
 }
 
 /// A case with its stream and its number there.
@@ -1486,14 +1390,8 @@ pub struct Numbered {
 /// One case by itself, without those before it.
 pub fn one(seed: u64, stream: &str, number: u64) -> Option<Case> {
     let (group, index) = match stream {
-        "table" => (
-            table_group(seed, number / TABLES_A_GROUP),
-            number % TABLES_A_GROUP,
-        ),
-        "call" => (
-            call_group(seed, number / CALLS_A_GROUP),
-            number % CALLS_A_GROUP,
-        ),
+        "table" => (table_group(seed, number / TABLES_A_GROUP), number % TABLES_A_GROUP),
+        "call" => (call_group(seed, number / CALLS_A_GROUP), number % CALLS_A_GROUP),
         _ => return None,
     };
     group.into_iter().nth(index as usize)
@@ -1511,14 +1409,7 @@ pub struct Cases {
 
 impl Cases {
     pub fn new(seed: u64, tables: u64, calls: u64) -> Cases {
-        Cases {
-            seed,
-            tables,
-            calls,
-            made_tables: 0,
-            made_calls: 0,
-            ready: VecDeque::new(),
-        }
+        Cases { seed, tables, calls, made_tables: 0, made_calls: 0, ready: VecDeque::new() }
     }
 }
 
@@ -1550,12 +1441,7 @@ impl Iterator for Cases {
             // A last group may hold more than was asked for.
             let (tables, calls) = (self.tables, self.calls);
             self.ready.retain(|numbered| {
-                numbered.number
-                    < if numbered.stream == "table" {
-                        tables
-                    } else {
-                        calls
-                    }
+                numbered.number < if numbered.stream == "table" { tables } else { calls }
             });
         }
         self.ready.pop_front()

@@ -32,9 +32,6 @@
 #[cfg(all(test, feature = "subject"))]
 mod binding;
 mod case;
-#[cfg(feature = "subject")]
-#[path = "../../../bindings/rust/src/declared.rs"]
-mod declared;
 mod draft;
 mod faulty;
 mod generate;
@@ -82,9 +79,7 @@ impl Arguments {
             };
         };
         let number = text.parse();
-        number
-            .map(Some)
-            .map_err(|_| format!("{name} wants a number, not {text}"))
+        number.map(Some).map_err(|_| format!("{name} wants a number, not {text}"))
     }
 
     fn bytes(&self, name: &str) -> Result<Vec<u8>, String> {
@@ -245,11 +240,7 @@ fn print_difference(difference: &Difference) {
 }
 
 fn report(seed: u64, numbered: &Numbered, difference: &Difference, subject: &mut dyn Subject) {
-    let Numbered {
-        stream,
-        number,
-        case,
-    } = numbered;
+    let Numbered { stream, number, case } = numbered;
     println!("DIFFERENCE at seed {seed}, {stream} {number}");
     print_difference(difference);
     println!("  replay {case}");
@@ -400,10 +391,7 @@ fn cases(arguments: &Arguments) -> Result<bool, String> {
     let mut passed = 0;
     let mut failed = 0;
     for worked in read_cases(file)? {
-        for compared in [
-            worked.compare_resolver(),
-            worked.compare_subject(subject.as_mut()),
-        ] {
+        for compared in [worked.compare_resolver(), worked.compare_subject(subject.as_mut())] {
             match compared {
                 Ok(()) => passed += 1,
                 Err(difference) => {
@@ -449,11 +437,7 @@ fn faults(arguments: &Arguments) -> Result<bool, String> {
     let mut passed = 0;
     let mut failed = 0;
     let mut count = |found: Option<String>| {
-        *(if found.is_some() {
-            &mut passed
-        } else {
-            &mut failed
-        }) += 1;
+        *(if found.is_some() { &mut passed } else { &mut failed }) += 1;
         found.unwrap_or_else(|| "NOT FOUND".into())
     };
     for fault in Fault::ALL {
@@ -468,10 +452,7 @@ fn faults(arguments: &Arguments) -> Result<bool, String> {
     let alike = |numbered: Numbered| numbered.case.compare(&mut subject).is_ok();
     let none = Cases::new(seed, TABLES / 10, CALLS / 10).all(alike);
     println!("with no fault");
-    println!(
-        "  compared: {}",
-        count(none.then(|| "no difference".into()))
-    );
+    println!("  compared: {}", count(none.then(|| "no difference".into())));
     println!("{passed} passed, {failed} failed");
     Ok(failed == 0)
 }

@@ -89,10 +89,7 @@ fn broken<T>(rule: u64, record: u64) -> Result<T, Broken> {
 
 /// The value of a little-endian field of at most eight bytes.
 fn value(field: &[u8]) -> u64 {
-    field
-        .iter()
-        .rev()
-        .fold(0, |sum, byte| (sum << 8) | u64::from(*byte))
+    field.iter().rev().fold(0, |sum, byte| (sum << 8) | u64::from(*byte))
 }
 
 /// Records with their numbers.
@@ -376,44 +373,25 @@ pub struct Place {
 
 #[derive(Clone, Copy, Debug, PartialEq, Eq)]
 pub enum Answer {
-    Found {
-        place: Place,
-        components: u64,
-        links: u64,
-    },
-    Refused {
-        errno: u64,
-        detail: u64,
-        components: u64,
-        links: u64,
-    },
+    Found { place: Place, components: u64, links: u64 },
+    Refused { errno: u64, detail: u64, components: u64, links: u64 },
 }
 
 impl Answer {
     /// A refusal before the walk.
     fn refused(errno: u64, detail: u64) -> Answer {
-        Answer::Refused {
-            errno,
-            detail,
-            components: 0,
-            links: 0,
-        }
+        Answer::Refused { errno, detail, components: 0, links: 0 }
     }
 
     /// errno (0 for found), detail, mount, node, components, links.
     pub fn numbers(&self) -> [u64; 6] {
         match *self {
-            Answer::Found {
-                place,
-                components,
-                links,
-            } => [0, NO_DETAIL, place.mount, place.node, components, links],
-            Answer::Refused {
-                errno,
-                detail,
-                components,
-                links,
-            } => [errno, detail, 0, 0, components, links],
+            Answer::Found { place, components, links } => {
+                [0, NO_DETAIL, place.mount, place.node, components, links]
+            }
+            Answer::Refused { errno, detail, components, links } => {
+                [errno, detail, 0, 0, components, links]
+            }
         }
     }
 }
@@ -472,15 +450,11 @@ impl Event {
                 (set.no_xdev && leaves, EXDEV),
                 (set.beneath, EXDEV),
             ],
-            Event::Jump { leaves } => &[
-                (set.mark, ENOENT),
-                (set.beneath, EXDEV),
-                (set.no_xdev && leaves, EXDEV),
-            ],
+            Event::Jump { leaves } => {
+                &[(set.mark, ENOENT), (set.beneath, EXDEV), (set.no_xdev && leaves, EXDEV)]
+            }
         };
-        row.iter()
-            .find(|(forbids, _)| *forbids)
-            .map(|(_, errno)| *errno)
+        row.iter().find(|(forbids, _)| *forbids).map(|(_, errno)| *errno)
     }
 }
 
@@ -586,9 +560,7 @@ pub fn resolve(
     how: &[u8],
 ) -> [u64; 6] {
     let handle = Place { mount, node };
-    resolve_with_events(image, handle, mark, path, how)
-        .0
-        .numbers()
+    resolve_with_events(image, handle, mark, path, how).0.numbers()
 }
 
 /// The answer, with the events that the walk meets in the order met; a call
@@ -624,10 +596,7 @@ pub fn resolve_in(
     if let Some(errno) = table.handle_errno(handle) {
         return (Answer::refused(errno, NO_DETAIL), Vec::new());
     }
-    let top = Place {
-        mount: 0,
-        node: table.mounts.first().map_or(0, |mount| mount.root),
-    };
+    let top = Place { mount: 0, node: table.mounts.first().map_or(0, |mount| mount.root) };
     let in_root = how.resolve & IN_ROOT != 0;
     let path_ends_in_slash = path.ends_with(b"/");
     let walk = Walk {
@@ -674,18 +643,15 @@ struct Walk<'t> {
 
 /// Slashes part components; repeats count as one.
 fn components_of(text: &[u8]) -> impl DoubleEndedIterator<Item = &[u8]> {
-    text.split(|byte| *byte == b'/')
-        .filter(|component| !component.is_empty())
+    text.split(|byte| *byte == b'/').filter(|component| !component.is_empty())
 }
 
 impl<'t> Walk<'t> {
     fn run(mut self, path: &'t [u8]) -> (Answer, Vec<Met>) {
         let answer = match self.go(path) {
-            Ok(()) => Answer::Found {
-                place: self.here,
-                components: self.components,
-                links: self.links,
-            },
+            Ok(()) => {
+                Answer::Found { place: self.here, components: self.components, links: self.links }
+            }
             Err(errno) => Answer::Refused {
                 errno,
                 detail: NO_DETAIL,
@@ -731,11 +697,7 @@ impl<'t> Walk<'t> {
 
     /// Notes the event, then lets the restrictions set refuse it.
     fn meet(&mut self, event: Event) -> Result<(), u64> {
-        self.events.push(Met {
-            event,
-            components: self.components,
-            links: self.links,
-        });
+        self.events.push(Met { event, components: self.components, links: self.links });
         event.forbidden(self.set).map_or(Ok(()), Err)
     }
 
@@ -750,10 +712,7 @@ impl<'t> Walk<'t> {
         let mount = self.table.mount(self.here.mount).ok_or(EUCLEAN)?;
         if self.here.node == mount.root {
             self.meet(Event::Cross)?;
-            self.here = Place {
-                mount: mount.parent,
-                node: mount.point,
-            };
+            self.here = Place { mount: mount.parent, node: mount.point };
         }
         let parent = self.table.node(self.here.node).ok_or(EUCLEAN)?.parent;
         self.stand_on(parent)
@@ -765,10 +724,7 @@ impl<'t> Walk<'t> {
         self.here.node = node;
         if let Some((number, mount)) = self.table.covering(self.here) {
             self.meet(Event::Cross)?;
-            self.here = Place {
-                mount: number,
-                node: mount.root,
-            };
+            self.here = Place { mount: number, node: mount.root };
         }
         Ok(())
     }
@@ -796,26 +752,16 @@ impl<'t> Walk<'t> {
         }
         self.meet(Event::Link)?;
         if link.kind == MAGIC {
-            let target = Place {
-                mount: link.first,
-                node: link.count,
-            };
-            self.meet(Event::Magic {
-                leaves: target.mount != self.here.mount,
-            })?;
+            let target = Place { mount: link.first, node: link.count };
+            self.meet(Event::Magic { leaves: target.mount != self.here.mount })?;
             if self.in_root {
                 return Err(EXDEV);
             }
             self.here = target;
         } else {
-            let body = self
-                .table
-                .text_part(link.first, link.count)
-                .ok_or(EUCLEAN)?;
+            let body = self.table.text_part(link.first, link.count).ok_or(EUCLEAN)?;
             if body.starts_with(b"/") {
-                self.meet(Event::Jump {
-                    leaves: self.here.mount != self.root.mount,
-                })?;
+                self.meet(Event::Jump { leaves: self.here.mount != self.root.mount })?;
                 self.here = self.root;
             }
             if last && body.ends_with(b"/") {

@@ -10,12 +10,7 @@ const MOST_TRIES: usize = 20_000;
 const LONGEST: Duration = Duration::from_secs(8);
 
 pub fn shrink(subject: &mut dyn Subject, case: &Case) -> Case {
-    let mut shrinker = Shrinker {
-        subject,
-        best: case.clone(),
-        tries: 0,
-        since: Instant::now(),
-    };
+    let mut shrinker = Shrinker { subject, best: case.clone(), tries: 0, since: Instant::now() };
     while shrinker.pass() {}
     shrinker.best
 }
@@ -227,10 +222,7 @@ impl Shrinker<'_> {
     fn shrink_bytes(&mut self) {
         let with = |best: &Case, image: Vec<u8>| match best {
             Case::Table(_) => Case::Table(image),
-            Case::Call(call) => Case::Call(Call {
-                image,
-                ..call.clone()
-            }),
+            Case::Call(call) => Case::Call(Call { image, ..call.clone() }),
         };
         for length in [0, 19, 20, self.image().len() / 2] {
             let mut image = self.image().to_vec();
@@ -287,9 +279,7 @@ fn without_record(image: &[u8], part: usize, index: usize) -> Option<Vec<u8>> {
     for (field, width, number) in [(field, width, counts[part] - 1), (16, 4, total)] {
         let mut bytes = Vec::new();
         put(&mut bytes, number, width);
-        smaller
-            .get_mut(field..field + width)?
-            .copy_from_slice(&bytes);
+        smaller.get_mut(field..field + width)?.copy_from_slice(&bytes);
     }
     Some(smaller)
 }
@@ -312,12 +302,9 @@ mod tests {
 
     #[test]
     fn a_shrunk_case_still_differs() {
-        for fault in [
-            Fault::HandleByNode,
-            Fault::MagicEnters,
-            Fault::EarlierName,
-            Fault::TailIgnored,
-        ] {
+        for fault in
+            [Fault::HandleByNode, Fault::MagicEnters, Fault::EarlierName, Fault::TailIgnored]
+        {
             let mut subject = Planted(Some(fault));
             let case = Cases::new(3, 5_000, 15_000)
                 .map(|numbered| numbered.case)

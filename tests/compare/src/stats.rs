@@ -56,11 +56,7 @@ fn range(count: u64, bounds: &[u64]) -> (u64, String) {
     let mut low = 0;
     for bound in bounds {
         if count <= *bound {
-            let label = if low == *bound {
-                format!("{low}")
-            } else {
-                format!("{low} to {bound}")
-            };
+            let label = if low == *bound { format!("{low}") } else { format!("{low} to {bound}") };
             return (low, label);
         }
         low = bound + 1;
@@ -85,12 +81,7 @@ impl Stats {
                 };
                 *self.rules.entry((*rule, which)).or_default() += 1;
             }
-            Alike::Call {
-                first,
-                events,
-                second,
-                stopped,
-            } => {
+            Alike::Call { first, events, second, stopped } => {
                 self.calls += 1;
                 self.note_call(first, events);
                 *self.second.entry(second.numbers()[0]).or_default() += 1;
@@ -128,10 +119,7 @@ impl Stats {
         }
         if walked {
             let bounds = [0, 1, 2, 3, 5, 8, 15, 40, 100, 1000, 83_967];
-            *self
-                .components
-                .entry(range(components, &bounds))
-                .or_default() += 1;
+            *self.components.entry(range(components, &bounds)).or_default() += 1;
             let bounds = [0, 1, 2, 3, 5, 10, 37, 38, 39, 40];
             *self.links.entry(range(links, &bounds)).or_default() += 1;
         }
@@ -191,10 +179,7 @@ impl Stats {
         }
         println!("events met (all, and the share of calls that met one):");
         for (name, (all, calls)) in &self.events {
-            println!(
-                "  {name:<28} {all:>9}  {:>6.2} %",
-                share(*calls, self.calls)
-            );
+            println!("  {name:<28} {all:>9}  {:>6.2} %", share(*calls, self.calls));
         }
         println!("second calls stopped by an added restriction, by the event:");
         for (name, count) in &self.stops {

@@ -16,12 +16,7 @@ pub struct Worked {
 
 fn number(bytes: &[u8], at: usize, width: usize) -> Option<u64> {
     let bytes = bytes.get(at..at + width)?;
-    Some(
-        bytes
-            .iter()
-            .rev()
-            .fold(0, |number, byte| number << 8 | u64::from(*byte)),
-    )
+    Some(bytes.iter().rev().fold(0, |number, byte| number << 8 | u64::from(*byte)))
 }
 
 /// The part of the file whose offset and length stand at a place.
@@ -52,9 +47,7 @@ fn record(file: &[u8], at: usize) -> Option<Worked> {
     Some(Worked {
         name: String::from_utf8(part(file, at + 28)?).ok()?,
         case,
-        expected: (0..count)
-            .map(|i| number(file, at + 56 + 4 * i, 4))
-            .collect::<Option<_>>()?,
+        expected: (0..count).map(|i| number(file, at + 56 + 4 * i, 4)).collect::<Option<_>>()?,
     })
 }
 
@@ -70,11 +63,7 @@ impl Worked {
         if got == self.expected {
             return Ok(());
         }
-        Err(Difference {
-            what,
-            expected: self.expected.clone(),
-            got,
-        })
+        Err(Difference { what, expected: self.expected.clone(), got })
     }
 
     /// The comparing resolver's answer is the expected one.
@@ -106,10 +95,6 @@ impl Worked {
         if untouched {
             return Ok(());
         }
-        Err(Difference {
-            what: "lent bytes were changed",
-            expected: self.expected.clone(),
-            got,
-        })
+        Err(Difference { what: "lent bytes were changed", expected: self.expected.clone(), got })
     }
 }

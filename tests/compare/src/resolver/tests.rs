@@ -25,14 +25,9 @@ fn bench() -> Vec<u8> {
     tree.name(lab, b"cal", cal);
     tree.name(lab, b"pool", pool);
     tree.name(second, b"run", run);
-    for (name, node) in [
-        ("tare", tare),
-        ("up", up),
-        ("abs", abs),
-        ("loop", round),
-        ("fd", fd),
-        ("t", t),
-    ] {
+    for (name, node) in
+        [("tare", tare), ("up", up), ("abs", abs), ("loop", round), ("fd", fd), ("t", t)]
+    {
         tree.name(cal, name.as_bytes(), node);
     }
     tree.mount(top, 0, top);
@@ -77,10 +72,7 @@ fn bench_tree_rows() {
     assert_eq!(call("cal/loop", 0, 0, false), refused(ELOOP, 42, 40)); // P10
     assert_eq!(call("cal/up", 0, BENEATH, false), refused(EXDEV, 4, 1)); // P11
     let unfollowed = O_PATH | O_NOFOLLOW;
-    assert_eq!(
-        call("cal/fd", unfollowed, NO_MAGICLINKS, false),
-        found(0, 10, 2, 0)
-    ); // P12
+    assert_eq!(call("cal/fd", unfollowed, NO_MAGICLINKS, false), found(0, 10, 2, 0)); // P12
     assert_eq!(call("cal/fd", 0, NO_XDEV, false), found(0, 3, 2, 1));
     assert_eq!(call("cal/t", 0, 0, false), refused(ENOTDIR, 3, 1));
     assert_eq!(call("cal/tare/x", 0, 0, false), refused(ENOTDIR, 2, 0));
@@ -102,10 +94,7 @@ fn smallest_image() {
         ("../..", found(0, 0, 2, 0)),
         ("a/b", refused(ENOENT, 1, 0)),
     ] {
-        assert_eq!(
-            resolve(&SMALLEST, 0, 0, false, path.as_bytes(), &plain),
-            answer
-        );
+        assert_eq!(resolve(&SMALLEST, 0, 0, false, path.as_bytes(), &plain), answer);
     }
     for length in 0..40 {
         let rule = if length < 20 { 1 } else { 3 };
@@ -134,12 +123,7 @@ fn returning(body: &[u8]) -> Vec<u8> {
 fn forty_links_pass_and_the_next_does_not() {
     let plain = how(0, 0);
     // Each kind in the middle of a path, with the components its body takes.
-    for (name, body, more) in [
-        ("s", "/", 0),
-        ("s", ".", 1),
-        ("s", "/d/..", 2),
-        ("m", ".", 0),
-    ] {
+    for (name, body, more) in [("s", "/", 0), ("s", ".", 1), ("s", "/d/..", 2), ("m", ".", 0)] {
         let image = returning(body.as_bytes());
         let path = |links: usize| format!("{name}/").repeat(links) + "f";
         assert_eq!(
@@ -163,15 +147,8 @@ fn forty_links_pass_and_the_next_does_not() {
         }
         tree.mount(top, 0, top);
         let path = format!("l{links}");
-        let expected = if links == 40 {
-            found(0, 1, 41, 40)
-        } else {
-            refused(ELOOP, 41, 40)
-        };
-        assert_eq!(
-            resolve(&tree.image(true), 0, 0, false, path.as_bytes(), &plain),
-            expected
-        );
+        let expected = if links == 40 { found(0, 1, 41, 40) } else { refused(ELOOP, 41, 40) };
+        assert_eq!(resolve(&tree.image(true), 0, 0, false, path.as_bytes(), &plain), expected);
     }
     // The limit comes before the events: after 40 links the mark and
     // NO_MAGICLINKS no longer speak.
@@ -190,10 +167,7 @@ fn most_components() {
     let text = b"./".repeat(2047);
     let body = [&text[..], b"s"].concat();
     let image = returning(&body);
-    assert_eq!(
-        resolve(&image, 0, 0, false, &body, &how(0, 0)),
-        refused(ELOOP, 83_968, 40)
-    );
+    assert_eq!(resolve(&image, 0, 0, false, &body, &how(0, 0)), refused(ELOOP, 83_968, 40));
 }
 
 #[test]
@@ -278,32 +252,14 @@ fn order_before_the_walk() {
     let mut bad_how = how(1, 0);
     bad_how[8] = 1;
     let table = b"TOC2".to_vec();
-    assert_eq!(
-        resolve(&table, 9, 9, true, &long, &[]),
-        refused(EUCLEAN, 0, 0)
-    );
+    assert_eq!(resolve(&table, 9, 9, true, &long, &[]), refused(EUCLEAN, 0, 0));
     let image = bench();
-    assert_eq!(
-        resolve(&image, 9, 9, true, &long, &bad_how),
-        [EINVAL, 0, 0, 0, 0, 0]
-    );
+    assert_eq!(resolve(&image, 9, 9, true, &long, &bad_how), [EINVAL, 0, 0, 0, 0, 0]);
     let plain = how(0, 0);
-    assert_eq!(
-        resolve(&image, 9, 9, true, &long, &plain),
-        refused(ENAMETOOLONG, 0, 0)
-    );
-    assert_eq!(
-        resolve(&image, 9, 9, true, b"", &plain),
-        refused(ENOENT, 0, 0)
-    );
-    assert_eq!(
-        resolve(&image, 9, 9, true, b"/\0", &plain),
-        refused(EINVAL, 0, 0)
-    );
-    assert_eq!(
-        resolve(&image, 9, 9, true, b"/", &plain),
-        refused(EBADF, 0, 0)
-    );
+    assert_eq!(resolve(&image, 9, 9, true, &long, &plain), refused(ENAMETOOLONG, 0, 0));
+    assert_eq!(resolve(&image, 9, 9, true, b"", &plain), refused(ENOENT, 0, 0));
+    assert_eq!(resolve(&image, 9, 9, true, b"/\0", &plain), refused(EINVAL, 0, 0));
+    assert_eq!(resolve(&image, 9, 9, true, b"/", &plain), refused(EBADF, 0, 0));
 }
 
 #[test]
@@ -595,10 +551,7 @@ fn mounts_and_the_handle() {
     assert_eq!(answer(0, 1, "m/../c", 0), found(1, 1, 3, 1));
     assert_eq!(answer(1, 1, "m", NO_XDEV), refused(EXDEV, 1, 0));
     assert_eq!(answer(0, 1, "m", IN_ROOT), refused(EXDEV, 1, 0));
-    assert_eq!(
-        answer(0, 1, "m", IN_ROOT | NO_MAGICLINKS),
-        refused(ELOOP, 1, 0)
-    );
+    assert_eq!(answer(0, 1, "m", IN_ROOT | NO_MAGICLINKS), refused(ELOOP, 1, 0));
 }
 
 #[test]
@@ -643,10 +596,7 @@ fn directory_requirement() {
     assert_eq!(answer("inner", O_NOFOLLOW | O_PATH), found(0, 2, 1, 0));
     let both = O_NOFOLLOW | O_PATH | O_DIRECTORY;
     assert_eq!(answer("inner", both), refused(ENOTDIR, 1, 0));
-    assert_eq!(
-        answer("inner", O_NOFOLLOW | O_DIRECTORY),
-        refused(ENOTDIR, 1, 0)
-    );
+    assert_eq!(answer("inner", O_NOFOLLOW | O_DIRECTORY), refused(ENOTDIR, 1, 0));
     assert_eq!(answer("inner/x", O_NOFOLLOW), refused(ENOTDIR, 2, 1));
 }
 
@@ -660,39 +610,14 @@ fn demand_3_from_the_events() {
         ("cal/tare", 0, Restrictions::new(true, 7), found(0, 3, 2, 0)),
         // The mark lets Link pass, not Jump.
         ("cal/abs", 0, mark, refused(ENOENT, 2, 0)),
-        (
-            "cal/abs",
-            0,
-            Restrictions::new(false, NO_SYMLINKS),
-            refused(ELOOP, 2, 0),
-        ),
+        ("cal/abs", 0, Restrictions::new(false, NO_SYMLINKS), refused(ELOOP, 2, 0)),
         // The row is tried over all now set: the mark stands before BENEATH.
         ("..", BENEATH, mark, refused(ENOENT, 1, 0)),
         ("cal/fd", IN_ROOT, mark, refused(ENOENT, 2, 0)),
-        (
-            "cal/fd",
-            IN_ROOT,
-            Restrictions::new(false, NO_MAGICLINKS),
-            refused(ELOOP, 2, 0),
-        ),
-        (
-            "cal/fd",
-            0,
-            Restrictions::new(false, NO_XDEV),
-            found(0, 3, 2, 1),
-        ),
-        (
-            "pool/run",
-            0,
-            Restrictions::new(false, NO_XDEV),
-            refused(EXDEV, 1, 0),
-        ),
-        (
-            "/",
-            0,
-            Restrictions::new(false, BENEATH),
-            refused(EXDEV, 0, 0),
-        ),
+        ("cal/fd", IN_ROOT, Restrictions::new(false, NO_MAGICLINKS), refused(ELOOP, 2, 0)),
+        ("cal/fd", 0, Restrictions::new(false, NO_XDEV), found(0, 3, 2, 1)),
+        ("pool/run", 0, Restrictions::new(false, NO_XDEV), refused(EXDEV, 1, 0)),
+        ("/", 0, Restrictions::new(false, BENEATH), refused(EXDEV, 0, 0)),
         ("/lab", IN_ROOT, mark, refused(ENOENT, 0, 0)),
     ] {
         let (first, events) =
@@ -706,9 +631,7 @@ fn demand_3_from_the_events() {
 fn any_bytes_give_an_answer() {
     let mut state = 7u64;
     let mut byte = || {
-        state = state
-            .wrapping_mul(6364136223846793005)
-            .wrapping_add(1442695040888963407);
+        state = state.wrapping_mul(6364136223846793005).wrapping_add(1442695040888963407);
         (state >> 33) as u8
     };
     let image = bench();
@@ -718,9 +641,7 @@ fn any_bytes_give_an_answer() {
             let at = (usize::from(byte()) * 256 + usize::from(byte())) % changed.len();
             changed[at] = byte();
         }
-        let path: Vec<u8> = (0..byte() % 9)
-            .map(|_| b"./tcal"[usize::from(byte() % 6)])
-            .collect();
+        let path: Vec<u8> = (0..byte() % 9).map(|_| b"./tcal"[usize::from(byte() % 6)]).collect();
         resolve(&changed, 0, u64::from(byte() % 3), false, &path, &how(0, 0));
     }
 }
