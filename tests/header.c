@@ -38,8 +38,7 @@ static void hows(void)
     uint8_t how[VENTOLAIRE_HOW_SIZE + 1];
     memset(how, 0xa5, sizeof how);
     ventolaire_how(how, UINT64_C(0x0102030405060708),
-                   VENTOLAIRE_RESOLVE_BENEATH | VENTOLAIRE_RESOLVE_IN_ROOT |
-                       UINT64_C(1) << 63);
+                   VENTOLAIRE_RESOLVE_BENEATH | VENTOLAIRE_RESOLVE_IN_ROOT | UINT64_C(1) << 63);
     HOLDS(memcmp(how, expected, sizeof how) == 0);
 }
 

@@ -2,8 +2,10 @@
 //! which checks the table each time, and by a `Table`, which was checked once.
 
 use crate::measure::{instructions, nanoseconds};
-use crate::tables::{bench_tree, Tree, LAB};
-use crate::{grouped, number_of_calls, row};
+use crate::tables::LAB;
+use crate::{grouped, number_of_calls, row, wrong};
+use data::image::Tree;
+use data::BENCH_TREE;
 use std::error::Error;
 use std::hint::black_box;
 use ventolaire::{Found, Handle, OpenHow, Refusal, Table};
@@ -12,40 +14,40 @@ const HANDLE: Handle = Handle::new(0, LAB);
 const PATH: &str = "cal/tare";
 
 /// A table's name, what it is, and how it is built.
-type Named = (&'static str, &'static str, fn() -> Tree);
+type Named = (&'static str, &'static str, fn() -> Vec<u8>);
 
 const TABLES: [Named; 2] = [
-    ("bench", "the bench tree", bench_tree),
-    ("full", "the same among other directories", full_lab),
+    ("bench", "the bench tree", || BENCH_TREE.to_vec()),
+    ("full", "lab/cal/tare among other directories", full),
 ];
 
-/// The bench tree, and beside its lab 43 directories of 32 files and 8 absolute
-/// links each: some 62 KB.
-fn full_lab() -> Tree {
-    let mut tree = bench_tree();
-    let others = tree.named_directory(0, "others");
+/// lab/cal/tare, and beside lab 43 directories of 32 files and 8 absolute links
+/// each: some 62 KB.
+fn full() -> Vec<u8> {
+    let (mut tree, top) = Tree::mounted();
+    let lab = tree.named_directory(top, "lab");
+    let cal = tree.named_directory(lab, "cal");
+    tree.named_file(cal, "tare");
+    let others = tree.named_directory(top, "others");
     for i in 0..43 {
         let directory = tree.named_directory(others, &format!("{i:02}"));
         for j in 0..32 {
             tree.named_file(directory, &format!("run-{j:04}.dat"));
         }
         for j in 0..8 {
-            tree.named_symlink(
-                directory,
-                &format!("last-{j}"),
-                &format!("/others/{i:02}/run-{j:04}.dat"),
-            );
+            let body = format!("/others/{i:02}/run-{j:04}.dat");
+            tree.named_link(directory, &format!("last-{j}"), &body);
         }
     }
-    tree
+    tree.image()
 }
 
 /// Measures both ways and prints a row for each table.
 pub fn measure() -> Result<(), Box<dyn Error>> {
     row("cal/tare in", &["bytes", "resolve", "Table::resolve", "resolve ns", "Table::resolve ns"]);
     row("---", &["---:"; 5]);
-    for (name, about, tree) in TABLES {
-        let image = tree().image();
+    for (name, about, build) in TABLES {
+        let image = build();
         let figures = [
             image.len() as f64,
             instructions(&["call", name, "resolve"], 10)?,
@@ -61,13 +63,13 @@ pub fn measure() -> Result<(), Box<dyn Error>> {
 /// One of the ways, that many times; prints what hangs on the answers.
 pub fn run(table: &str, way: &str, calls: &str) -> Result<(), Box<dyn Error>> {
     let found = TABLES.into_iter().find(|(name, ..)| *name == table);
-    let (.., tree) = found.ok_or_else(|| format!("no table {table}"))?;
+    let (.., build) = found.ok_or_else(|| wrong(format!("no table {table}")))?;
     let run = match way {
         "resolve" => each_time,
         "table" => once,
-        _ => return Err(format!("no way {way}").into()),
+        _ => return Err(wrong(format!("no way {way}"))),
     };
-    println!("{}", run(&tree().image(), number_of_calls(calls)?));
+    println!("{}", run(&build(), number_of_calls(calls)?));
     Ok(())
 }
 
@@ -94,8 +96,8 @@ mod tests {
 
     #[test]
     fn both_ways_find_it() {
-        for ((name, _, tree), bytes) in TABLES.into_iter().zip([316..=316, 61_500..=62_500]) {
-            let image = tree().image();
+        for ((name, _, build), bytes) in TABLES.into_iter().zip([316..=316, 61_500..=62_500]) {
+            let image = build();
             assert!(bytes.contains(&image.len()), "{name}: {}", image.len());
             let found = ventolaire::resolve(&image, HANDLE, PATH, OpenHow::new()).unwrap();
             assert_eq!(found.to_string(), "(0,3); 2 components, 0 links");

@@ -26,8 +26,6 @@ mod agree;
 #[cfg(feature = "proved")]
 mod calls;
 mod chart;
-#[path = "../../bindings/rust/src/declared.rs"]
-mod declared;
 mod growth;
 mod hostile;
 mod linear;
@@ -158,8 +156,8 @@ fn run(case: &str, side: &str, calls: &str) -> Result<(), Box<dyn Error>> {
     Ok(())
 }
 
-fn number_of_calls(calls: &str) -> Result<u64, String> {
-    calls.parse().map_err(|_| format!("{calls} is no number of calls"))
+fn number_of_calls(calls: &str) -> Result<u64, Box<dyn Error>> {
+    calls.parse().map_err(|_| wrong(format!("{calls} is no number of calls")))
 }
 
 /// All tables, and a chart of the first two.

@@ -6,11 +6,11 @@
 //! else is `bindings/rust`: a walk's table is checked by `Table`, and answers have
 //! to be the same by it.
 
-use crate::declared::{ventolaire_check, ventolaire_resolve_accepted};
 use crate::plain;
 use crate::tables::Numbers;
 use crate::walk::{Accepted, UNWRITTEN};
 use ventolaire::{Found, Handle, Refusal, Table};
+use ventolaire_sys::{ventolaire_check, ventolaire_resolve_accepted};
 
 pub fn check(image: &[u8]) -> Numbers {
     let mut out = [UNWRITTEN; 2];

@@ -6,12 +6,12 @@
 //! does what the library's does besides the walk. What the crossing costs is
 //! thus in both figures, and the compiler sees through neither call.
 
-use crate::declared::Resolve;
 use crate::plain::{self, Handle};
 use crate::side::resolved;
 use crate::tables::Numbers;
 use std::hint::black_box;
 use std::slice::{from_raw_parts, from_raw_parts_mut};
+use ventolaire_sys::Resolve;
 
 /// What stands in an output before the call. It is part of no answer, so a call
 /// that writes nothing gives a wrong one.

@@ -1,8 +1,8 @@
 //! The library's C functions called, and nearly all of this crate that is unsafe:
 //! besides, `Table` says that its image was accepted.
 
-use crate::declared::{ventolaire_check, ventolaire_resolve, ventolaire_resolve_accepted, Resolve};
 use crate::Handle;
+use ventolaire_sys::{ventolaire_check, ventolaire_resolve, ventolaire_resolve_accepted, Resolve};
 
 /// What stands in an output before the call. Neither a rule nor an errno, so
 /// numbers that a library failed to write read as a refusal.
@@ -70,9 +70,9 @@ unsafe fn resolve_by(
 mod tests {
     use super::*;
     use crate::bench_tree::{IMAGE, TABLE};
-    use crate::declared::ventolaire_errnos;
     use crate::Errno;
     use std::ptr;
+    use ventolaire_sys::ventolaire_errnos;
 
     const ROOM: usize = 12;
 

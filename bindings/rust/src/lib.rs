@@ -6,8 +6,6 @@
 mod answer;
 pub mod bench_tree;
 mod bits;
-#[allow(unsafe_code)]
-mod declared;
 mod errno;
 #[allow(unsafe_code)]
 mod ffi;

@@ -12,9 +12,7 @@ type Read<'a> = (u64, u64, Vec<(&'a [u8], u64)>, &'a [u8], (u64, u64));
 
 fn read(node: Node) -> Read {
     match node {
-        Node::Directory {
-            parent, entries, ..
-        } => {
+        Node::Directory { parent, entries, .. } => {
             let entries = entries.map(|entry| (entry.name, entry.node)).collect();
             (DIRECTORY, parent, entries, b"", (0, 0))
         }
@@ -45,19 +43,11 @@ fn reads_alike(table: &Table, expecting: &resolver::Table) {
     for ((number, node), expect) in table.nodes().zip(&expecting.nodes) {
         assert_eq!(read(node), expected(expecting, expect), "node {number}");
     }
-    let mounts = table
-        .mounts()
-        .map(|(_, mount)| (mount.root, mount.parent, mount.point));
-    let expect = expecting
-        .mounts
-        .iter()
-        .map(|mount| (mount.root, mount.parent, mount.point));
+    let mounts = table.mounts().map(|(_, mount)| (mount.root, mount.parent, mount.point));
+    let expect = expecting.mounts.iter().map(|mount| (mount.root, mount.parent, mount.point));
     assert!(mounts.eq(expect));
     let entries = table.entries().map(|entry| (Some(entry.name), entry.node));
-    let expect = expecting
-        .entries
-        .iter()
-        .map(|entry| (expecting.name(entry), entry.node));
+    let expect = expecting.entries.iter().map(|entry| (expecting.name(entry), entry.node));
     assert!(entries.eq(expect));
     assert_eq!(table.root().node, expecting.mounts[0].root);
 }
@@ -66,25 +56,11 @@ fn numbers(answer: Result<Found, Refusal>) -> [u64; 6] {
     match answer {
         Ok(found) => {
             let (place, detail) = (found.place, Refusal::NO_DETAIL);
-            [
-                0,
-                detail,
-                place.mount,
-                place.node,
-                found.components,
-                found.links,
-            ]
+            [0, detail, place.mount, place.node, found.components, found.links]
         }
         Err(refusal) => {
             let errno = refusal.errno.number();
-            [
-                errno,
-                refusal.detail,
-                0,
-                0,
-                refusal.components,
-                refusal.links,
-            ]
+            [errno, refusal.detail, 0, 0, refusal.components, refusal.links]
         }
     }
 }
@@ -102,10 +78,7 @@ fn tables_are_accepted_and_read_alike() {
                 accepted += 1;
             }
             (Err(broken), Err(expected)) => {
-                assert_eq!(
-                    (broken.rule, broken.record),
-                    (expected.rule, expected.record)
-                );
+                assert_eq!((broken.rule, broken.record), (expected.rule, expected.record));
             }
             _ => panic!("one side accepts: {}", numbered.case),
         }
@@ -120,11 +93,7 @@ fn calls_are_answered_alike() {
         let Case::Call(call) = &numbered.case else {
             continue;
         };
-        let handle = Handle {
-            mount: call.mount,
-            node: call.node,
-            mark: call.mark,
-        };
+        let handle = Handle { mount: call.mount, node: call.node, mark: call.mark };
         let answer = match Table::new(&call.image) {
             Ok(table) => {
                 accepted += 1;

@@ -15,9 +15,6 @@ mod arguments;
 #[cfg(all(test, feature = "subject"))]
 mod binding;
 mod case;
-#[cfg(feature = "subject")]
-#[path = "../../../bindings/rust/src/declared.rs"]
-mod declared;
 mod faults;
 mod faulty;
 mod generate;

@@ -48,7 +48,7 @@ pub use linked::Linked;
 #[cfg(feature = "subject")]
 mod linked {
     use super::{Handle, Lent, Subject};
-    use crate::declared::{ventolaire_check, ventolaire_resolve};
+    use ventolaire_sys::{ventolaire_check, ventolaire_resolve};
     // It is this crate that has the library linked.
     use ventolaire as _;
 

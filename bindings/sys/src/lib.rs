@@ -1,6 +1,19 @@
-//! The library's functions as `include/ventolaire.h` declares them, for every
-//! Rust program here: `bench` and `tests/compare` take this file by its path.
-#![allow(dead_code)] // no program calls all of them
+//! The functions of `include/ventolaire.h` as they are, for who wants no more than C has: the
+//! crate `ventolaire` is the safe one. The header says what each wants and writes.
+//!
+//! The build script links libventolaire.a from the folder that `VENTOLAIRE_LIB` names, else from
+//! the nearest `target/staticlib` above.
+//!
+//! ```
+//! let mut out = [u64::MAX; 2];
+//! // SAFETY: no bytes are lent, and `out` has room for two numbers.
+//! let written = unsafe {
+//!     ventolaire_sys::ventolaire_check(std::ptr::null(), 0, out.as_mut_ptr(), out.len())
+//! };
+//! assert_eq!((written, out), (2, [1, 0]));
+//! ```
+#![no_std]
+#![warn(missing_docs)]
 
 /// The type of both functions that resolve: image, mount, node, mark, path,
 /// open_how and output, each pointer with its length.
@@ -19,6 +32,7 @@ pub type Resolve = unsafe extern "C" fn(
 ) -> usize;
 
 extern "C" {
+    /// Checks a table image: rule (0: accepted) and record.
     pub fn ventolaire_check(
         image: *const u8,
         image_len: usize,
@@ -26,6 +40,8 @@ extern "C" {
         out_len: usize,
     ) -> usize;
 
+    /// Resolves a path, the image checked first: error number (0: found), detail, mount, node,
+    /// components and links.
     pub fn ventolaire_resolve(
         image: *const u8,
         image_len: usize,
@@ -40,7 +56,7 @@ extern "C" {
         out_len: usize,
     ) -> usize;
 
-    /// Wants an image that `ventolaire_check` accepted and that has not changed
+    /// The same without the check. Wants an image that `ventolaire_check` accepted and that has not changed
     /// since; with any other the behaviour is undefined.
     pub fn ventolaire_resolve_accepted(
         image: *const u8,
@@ -56,5 +72,6 @@ extern "C" {
         out_len: usize,
     ) -> usize;
 
+    /// The numbers of all refusals.
     pub fn ventolaire_errnos(out: *mut u64, out_len: usize) -> usize;
 }
