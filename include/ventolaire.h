@@ -41,8 +41,7 @@ extern "C" {
 #define VENTOLAIRE_VERSION_MAJOR 0
 #define VENTOLAIRE_VERSION_MINOR 1
 #define VENTOLAIRE_VERSION_PATCH 0
-#define VENTOLAIRE_VERSION \
-    (VENTOLAIRE_VERSION_MAJOR * 1000000 + VENTOLAIRE_VERSION_MINOR * 1000 + VENTOLAIRE_VERSION_PATCH)
+#define VENTOLAIRE_VERSION 1000 /* major * 1,000,000 + minor * 1,000 + patch */
 
 /*
  * How to resolve: the bytes of an open_how, little-endian.

@@ -6,8 +6,9 @@
 
 #include "ventolaire.h"
 
-#if VENTOLAIRE_VERSION < 1000 || VENTOLAIRE_VERSION_MAJOR > 999
-#error "the version cannot be compared"
+#define PARTS (1000 * VENTOLAIRE_VERSION_MAJOR + VENTOLAIRE_VERSION_MINOR)
+#if VENTOLAIRE_VERSION != 1000 * PARTS + VENTOLAIRE_VERSION_PATCH
+#error "the version is not the number that its parts make"
 #endif
 
 static int failures;
