@@ -33,11 +33,12 @@ field-same (suc width) s t at hs ht e i l u =
     (λ (q : at < i). field-same width s t (at + 1) hs ht later i (omega arith) (omega arith))
     (eq-or-lt-of-le l)
 
--- a search is the same where its tests are
-pub find-ext : (p q : ℕ → Bool) (at count : ℕ) → ((i : ℕ) → at ≤ i → p i ≡ q i) → find p at count ≡ find q at count
+-- a search is the same where its tests are, in its range
+pub find-ext : (p q : ℕ → Bool) (at count : ℕ) → ((i : ℕ) → at ≤ i → i < at + count → p i ≡ q i) → find p at count ≡ find q at count
 unfolding find
 find-ext p q at zero same = refl
-find-ext p q at (suc count) same = rw (same at (omega arith), find-ext p q (suc at) count (λ i h. same i (omega arith)))
+find-ext p q at (suc count) same =
+    rw (same at (omega arith) (omega arith), find-ext p q (suc at) count (λ i l h. same i (omega arith) (omega arith)))
 
 -- a field is its low bytes and, above them, its high bytes: one law for every width
 pub field-split : (low high : ℕ) (s : List ℕ) (at : ℕ)

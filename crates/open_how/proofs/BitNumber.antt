@@ -1,38 +1,19 @@
 -- The number of a number's lowest set bit: trailing zeros give what a search over the bits finds. Assumes nothing.
-use Prim.Native.Nat.{ℕ, zero, suc, _+_, _-_, _/_, _%_, _^_, _<_, min}
+use Prim.Native.Nat.{ℕ, zero, suc, _+_, _-_, _/_, _%_, _^_, _<_}
 use mathlib.Core.Bool.{Bool, cond, not, _&&_}
 use mathlib.Core.Option.{Option, none, some}
 use mathlib.Core.Path.{_≡_, refl, sym, ap, _∙_}
 use native.Mathlib.Nat.{zero-div, div-one, pow-suc}
 use native.Mathlib.Omega.{arith}
 use lib.Arith.{lt-one}
-use lib.Bits.{bitAnd, and-step, and-shr, and-le-r}
+use lib.Bits.{bitAnd, and-le-r}
 use lib.Count.{trailingZeros, under}
 use lib.Dec.{eqb}
 use lib.Pow.{shr-shr, ones-sub-lt}
 use Rattle.model.specs.Bytes.{has, find}
 use Rattle.model.specs.OpenHow.{unknownBit}
-use Rattle.open_how.proofs.SearchLaws.{find-same}
-
-digit-and : (p q : ℕ) → p < 2 → q < 2 → eqb (min p q) 1 ≡ (eqb p 1 && eqb q 1)
-digit-and zero zero hp hq = refl
-digit-and zero (suc zero) hp hq = refl
-digit-and (suc zero) zero hp hq = refl
-digit-and (suc zero) (suc zero) hp hq = refl
-digit-and zero (suc (suc q)) hp hq = absurd (omega arith)
-digit-and (suc zero) (suc (suc q)) hp hq = absurd (omega arith)
-digit-and (suc (suc p)) q hp hq = absurd (omega arith)
-
-low-and : (u v : ℕ) → bitAnd u v % 2 ≡ min (u % 2) (v % 2)
-low-and u v = let e = and-step u v in omega arith
-
--- "and" goes bit by bit
-pub has-and : (b x y : ℕ) → has (2 ^ b) (bitAnd x y) ≡ (has (2 ^ b) x && has (2 ^ b) y)
-unfolding has
-has-and b x y =
-    ap (λ (z : ℕ). eqb (z % 2) 1) (and-shr x y b)
-    ∙ ap (λ (z : ℕ). eqb z 1) (low-and (x / 2 ^ b) (y / 2 ^ b))
-    ∙ digit-and (x / 2 ^ b % 2) (y / 2 ^ b % 2) (omega arith) (omega arith)
+use Rattle.laws.proofs.BitLaws.{has-and}
+use Rattle.laws.proofs.ByteLaws.{find-ext}
 
 shift-next : (x b : ℕ) → x / 2 ^ b / 2 ≡ x / 2 ^ suc b
 shift-next x b = shr-shr x b 1 ∙ ap (λ (k : ℕ). x / 2 ^ k) (omega arith)
@@ -88,7 +69,7 @@ lowest-from (suc k) x at h n =
 module _ (k known x : ℕ) (small : known < 2 ^ k) where
   pub unknown-part : find (λ b. has (2 ^ b) x && not (has (2 ^ b) known)) 0 k ≡ find (λ b. has (2 ^ b) (bitAnd x (2 ^ k - 1 - known))) 0 k
   unknown-part =
-      find-same _ _ 0 k
+      find-ext _ _ 0 k
       (λ i l h. sym (has-and i x (2 ^ k - 1 - known) ∙ ap (λ (t : Bool). has (2 ^ i) x && t) (has-complement k i known (omega arith) small)))
 
   pub unknown-nowhere : bitAnd x (2 ^ k - 1 - known) ≡ 0 → find (λ b. has (2 ^ b) x && not (has (2 ^ b) known)) 0 k ≡ none

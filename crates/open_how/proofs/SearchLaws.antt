@@ -1,17 +1,9 @@
--- Laws of searches: over the same tests, and by a loop that goes to the end and remembers whether it met a hit. Assumes nothing.
-use Prim.Native.Nat.{ℕ, zero, suc, _+_, _-_, _≤_, _<_}
+-- A search by a loop that goes to the end and remembers whether it met a hit. Assumes nothing.
+use Prim.Native.Nat.{ℕ, _+_, _-_, _≤_, _<_}
 use mathlib.Core.Bool.{Bool, true, false, _||_, or-true, or-false}
-use mathlib.Core.Path.{_≡_, refl}
-use native.Mathlib.Omega.{arith}
+use mathlib.Core.Path.{_≡_}
 use Rattle.model.specs.Bytes.{find, isSome}
 use Rattle.laws.proofs.ByteLaws.{find-here, find-on, find-done}
-
--- a search is the same where its tests are, in its range
-pub find-same : (p q : ℕ → Bool) (at count : ℕ) → ((i : ℕ) → at ≤ i → i < at + count → p i ≡ q i) → find p at count ≡ find q at count
-unfolding find
-find-same p q at zero same = refl
-find-same p q at (suc count) same =
-    rw (same at (omega arith) (omega arith), find-same p q (suc at) count (λ i l h. same i (omega arith) (omega arith)))
 
 -- whether any number from `at` up to `end` passes, where `met` says whether an earlier one did
 module _ (p : ℕ → Bool) (at end : ℕ) (met : Bool) where

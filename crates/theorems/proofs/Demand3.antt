@@ -130,11 +130,11 @@ module _ (added : Restrictions) (call call′ : Call) (adds : Adds added call ca
   unfolding tailSet
   tail-kept =
       rw (adds .sameLength)
-      (ap isSome (find-ext (λ i. not (eqb (getD how′ i 0) 0)) (λ i. not (eqb (getD how i 0) 0)) 24 (length how - 24) (λ i l. ap (λ (b : ℕ). not (eqb b 0)) (adds .alike i (inr l)))))
+      (ap isSome (find-ext (λ i. not (eqb (getD how′ i 0) 0)) (λ i. not (eqb (getD how i 0) 0)) 24 (length how - 24) (λ i l h. ap (λ (b : ℕ). not (eqb b 0)) (adds .alike i (inr l)))))
 
   unknown-same : unknownBit knownResolve (resolveOf how′) ≡ unknownBit knownResolve (resolveOf how)
   unfolding unknownBit
-  unknown-same = rw (adds .bitsAdded long) (find-ext _ _ 0 64 (λ b l. unknown-kept (resolveOf how) (addedBits added) (bits-of added .5) b))
+  unknown-same = rw (adds .bitsAdded long) (find-ext _ _ 0 64 (λ b l h. unknown-kept (resolveOf how) (addedBits added) (bits-of added .5) b))
 
   scopes-kept : scopesRefused (resolveOf how′) ≡ scopesRefused (resolveOf how)
   scopes-kept =
