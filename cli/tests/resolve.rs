@@ -29,6 +29,21 @@ fn one_path_has_one_answer() {
             0,
             "0:4; 3 components, 0 links",
         ),
+        (&["lab", "--handle", "9:9"], 1, "EBADF (9); 0 components, 0 links"),
+        (&["", "--"], 1, "ENOENT (2); 0 components, 0 links"),
+        (&["--", "--mark"], 1, "ENOENT (2); 1 component, 0 links"),
+        (&["-"], 1, "ENOENT (2); 1 component, 0 links"),
+    ];
+    for (arguments, status, text) in rows {
+        assert_eq!(image.resolve(arguments), (*status, format!("{text}\n")), "{arguments:?}");
+    }
+}
+
+/// Bits are named or numbered, and open_hows given as bytes.
+#[test]
+fn open_hows_may_be_wrong() {
+    let image = Named::file(IMAGE);
+    let rows: &[(&[&str], i32, &str)] = &[
         (&["lab", "--resolve", "BENEATH,IN_ROOT"], 1, "EINVAL (22); 0 components, 0 links"),
         (
             &["lab", "--resolve", "BENEATH,0x60"],
@@ -46,10 +61,6 @@ fn one_path_has_one_answer() {
             1,
             "EINVAL (22), unknown resolve bit 56; 0 components, 0 links",
         ),
-        (&["lab", "--handle", "9:9"], 1, "EBADF (9); 0 components, 0 links"),
-        (&["", "--"], 1, "ENOENT (2); 0 components, 0 links"),
-        (&["--", "--mark"], 1, "ENOENT (2); 1 component, 0 links"),
-        (&["-"], 1, "ENOENT (2); 1 component, 0 links"),
     ];
     for (arguments, status, text) in rows {
         assert_eq!(image.resolve(arguments), (*status, format!("{text}\n")), "{arguments:?}");

@@ -64,6 +64,10 @@ fn wrong_usage_is_told_in_one_line() {
     for (arguments, text) in rows {
         assert_eq!(error(*arguments), *text, "{arguments:?}");
     }
+}
+
+#[test]
+fn a_place_is_two_numbers() {
     for place in ["1", "-1:0", "+1:0", "1:", ":", "0,1", "(0:1)", "0:1 ", "1:18446744073709551616"]
     {
         let text = format!("--handle wants MOUNT:NODE, not {place}");
