@@ -85,7 +85,7 @@ fn files_that_are_too_long() {
 #[test]
 fn files_that_may_not_be_read_or_written() {
     let file = Named::file(IMAGE);
-    fs::set_permissions(&file.0, Permissions::from_mode(0)).unwrap();
+    fs::set_permissions(&file.0, Permissions::from_mode(0o000)).unwrap();
     if File::open(&file.0).is_ok() {
         return;
     }

@@ -62,7 +62,10 @@ impl Named {
         static NEXT: AtomicU32 = AtomicU32::new(0);
         let number = NEXT.fetch_add(1, Ordering::Relaxed);
         let name = format!("{}-{number}.toc", std::process::id());
-        Named(Path::new(env!("CARGO_TARGET_TMPDIR")).join(name))
+        let path = Path::new(env!("CARGO_TARGET_TMPDIR")).join(name);
+        // A run that was stopped may have left it.
+        let _ = fs::remove_file(&path);
+        Named(path)
     }
 
     /// A file.
