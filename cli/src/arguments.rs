@@ -1,178 +1,191 @@
 //! What the arguments ask for.
 
+use crate::options::Parts;
+use crate::{escape, input, place};
 use std::ffi::{OsStr, OsString};
-use ventolaire::{Flags, OpenHow, Resolve};
+use ventolaire::{Flags, OpenHow, Place, Resolve};
 
 pub enum Command {
     Help,
     Version,
-    Check { image: OsString },
-    Show { image: OsString, dot: bool },
+    Check { image: OsString, json: bool },
+    Show { image: OsString, form: Form },
     Resolve(Query),
-    Demo { file: Option<OsString> },
+    Demo { file: Option<OsString>, json: bool },
+}
+
+/// In what form a table is shown.
+pub enum Form {
+    Text,
+    Dot,
+    Json,
 }
 
 pub struct Query {
     pub image: OsString,
-    /// Its bytes are the path's: it need not be text.
-    pub path: OsString,
-    /// The mount and node given, if they are.
-    pub handle: Option<(u64, u64)>,
+    pub source: Source,
+    /// The handle, if one is given.
+    pub handle: Option<Place>,
     pub mark: bool,
-    pub how: How,
+    /// The bytes of the open_how.
+    pub how: Vec<u8>,
     pub json: bool,
 }
 
-pub enum How {
-    Named(OpenHow),
-    Raw(Vec<u8>),
+/// Where the paths are.
+pub enum Source {
+    /// Their bytes are the paths': they need not be text.
+    Given(Vec<OsString>),
+    /// In a file, each with this byte at its end.
+    List { file: OsString, end: u8 },
 }
 
-/// All options, each with whether it takes a value.
-const OPTIONS: &[(&str, bool)] = &[
-    ("--dot", false),
-    ("--handle", true),
-    ("--mark", false),
-    ("--flag", true),
-    ("--resolve", true),
-    ("--how", true),
-    ("--json", false),
+/// The commands with their options.
+const COMMANDS: &[(&str, &[&str])] = &[
+    ("check", &["--json"]),
+    ("show", &["--dot", "--json"]),
+    (
+        "resolve",
+        &["--handle", "--mark", "--flag", "--resolve", "--how", "--paths-from", "--null", "--json"],
+    ),
+    ("demo", &["--json"]),
 ];
 
-/// The arguments, told apart.
-struct Parts {
-    operands: Vec<OsString>,
-    /// Options in their order, with their values.
-    options: Vec<(&'static str, OsString)>,
-}
-
 pub fn read(mut arguments: impl Iterator<Item = OsString>) -> Result<Command, String> {
-    let command = arguments.next().ok_or("no command given; see ventolaire --help")?;
-    let command = command.to_string_lossy().into_owned();
-    let known = match command.as_str() {
-        "--help" | "-h" | "help" => return Ok(Command::Help),
-        "--version" | "-V" | "version" => return Ok(Command::Version),
-        "check" | "demo" => &[][..],
-        "show" => &["--dot"][..],
-        "resolve" => &["--handle", "--mark", "--flag", "--resolve", "--how", "--json"][..],
-        _ => return Err(format!("no command is named {command}; see ventolaire --help")),
-    };
-    let Some(Parts { operands, options }) = parts(arguments)? else {
+    let first = arguments.next().ok_or("no command given; see ventolaire --help")?;
+    match first.to_str() {
+        Some("--help" | "-h" | "help") => return Ok(Command::Help),
+        Some("--version" | "-V" | "version") => return Ok(Command::Version),
+        _ => {}
+    }
+    let (command, options) =
+        *COMMANDS.iter().find(|(name, _)| first == *name).ok_or_else(|| {
+            format!("no command is named {}; see ventolaire --help", escape::name(&first))
+        })?;
+    let parts = Parts::of(arguments)?;
+    if parts.has("--help") {
         return Ok(Command::Help);
-    };
-    if let Some((option, _)) = options.iter().find(|(option, _)| !known.contains(option)) {
+    }
+    if let Some((option, _)) = parts.options.iter().find(|(name, _)| !options.contains(name)) {
         return Err(format!("{command} has no option {option}"));
     }
-    let mut operands = operands.into_iter();
-    let mut operand = |name: &str| operands.next().ok_or(format!("{command} wants {name}"));
-    let read = match command.as_str() {
-        "check" => Command::Check { image: operand("IMAGE")? },
-        "show" => Command::Show { image: operand("IMAGE")?, dot: !options.is_empty() },
-        "demo" => Command::Demo { file: operand("FILE").ok() },
-        _ => Command::Resolve(query(operand("IMAGE")?, operand("PATH")?, &options)?),
-    };
-    match operands.next() {
-        Some(surplus) => Err(format!("{command} has no use for {}", surplus.display())),
-        None => Ok(read),
+    let json = parts.has("--json");
+    match command {
+        "check" => Ok(Command::Check { image: only(command, &parts)?, json }),
+        "show" => Ok(Command::Show { image: only(command, &parts)?, form: form(&parts)? }),
+        "demo" => Ok(Command::Demo { file: demo_file(&parts)?, json }),
+        _ => query(&parts).map(Command::Resolve),
     }
 }
 
-/// Tells options from operands; none if it is help that is asked for.
-fn parts(mut arguments: impl Iterator<Item = OsString>) -> Result<Option<Parts>, String> {
-    let mut parts = Parts { operands: Vec::new(), options: Vec::new() };
-    while let Some(argument) = arguments.next() {
-        match argument.to_str() {
-            Some("--") => {
-                parts.operands.extend(arguments);
-                break;
-            }
-            Some("--help" | "-h") => return Ok(None),
-            _ if argument.as_encoded_bytes().first() != Some(&b'-') || argument == "-" => {
-                parts.operands.push(argument);
-            }
-            _ => {
-                let shown = argument.display();
-                let text = argument.to_str().unwrap_or_default();
-                let (name, joined) = match text.split_once('=') {
-                    Some((name, value)) => (name, Some(OsString::from(value))),
-                    None => (text, None),
-                };
-                let &(name, wants_value) = OPTIONS
-                    .iter()
-                    .find(|(known, _)| *known == name)
-                    .ok_or_else(|| format!("there is no option {shown}"))?;
-                let value = match (wants_value, joined) {
-                    (true, None) => arguments.next().ok_or(format!("{name} wants a value"))?,
-                    (true, Some(value)) => value,
-                    (false, None) => OsString::new(),
-                    (false, Some(_)) => return Err(format!("{name} takes no value")),
-                };
-                parts.options.push((name, value));
-            }
-        }
+/// The one operand of a command.
+fn only(command: &str, parts: &Parts) -> Result<OsString, String> {
+    match &parts.operands[..] {
+        [] => Err(format!("{command} wants IMAGE")),
+        [image] => Ok(image.clone()),
+        [_, surplus, ..] => Err(format!("{command} has no use for {}", escape::name(surplus))),
     }
-    Ok(Some(parts))
 }
 
-fn query(
-    image: OsString,
-    path: OsString,
-    options: &[(&'static str, OsString)],
-) -> Result<Query, String> {
-    let mut handle = None;
-    let mut mark = false;
-    let mut json = false;
-    let mut how = OpenHow::new();
-    let mut raw = None;
-    let mut named = None;
-    for (option, value) in options {
-        match *option {
-            "--handle" => {
-                let wrong = || format!("--handle wants MOUNT:NODE, not {}", value.display());
-                handle = Some(numbers(value).ok_or_else(wrong)?);
-            }
-            "--mark" => mark = true,
-            "--json" => json = true,
-            "--flag" => {
-                how.flags |= bit("flag", value, Flags::NAMED, Flags::from_name)?;
-                named = Some(option);
-            }
-            "--resolve" => {
-                how.resolve |= bit("resolve bit", value, Resolve::NAMED, Resolve::from_name)?;
-                named = Some(option);
-            }
-            _ => {
-                let wrong = || format!("--how wants bytes in hexadecimal, not {}", value.display());
-                raw = Some(bytes(value).ok_or_else(wrong)?);
-            }
-        }
-    }
-    let how = match (raw, named) {
-        (Some(_), Some(named)) => return Err(format!("--how and {named} exclude each other")),
-        (Some(raw), None) => How::Raw(raw),
-        (None, _) => How::Named(how),
-    };
-    Ok(Query { image, path, handle, mark, how, json })
-}
-
-/// The bit of a name, in letters of either case.
-fn bit<T>(
-    what: &str,
-    given: &OsStr,
-    named: &[(&str, T)],
-    from_name: impl Fn(&str) -> Option<T>,
-) -> Result<T, String> {
-    let bit = given.to_str().and_then(|name| from_name(&name.to_ascii_uppercase()));
-    bit.ok_or_else(|| {
-        let names: Vec<&str> = named.iter().map(|(name, _)| *name).collect();
-        format!("no {what} is named {}; there are {}", given.display(), names.join(", "))
+fn form(parts: &Parts) -> Result<Form, String> {
+    parts.exclude("--dot", "--json")?;
+    Ok(match (parts.has("--dot"), parts.has("--json")) {
+        (true, _) => Form::Dot,
+        (_, true) => Form::Json,
+        _ => Form::Text,
     })
 }
 
-/// The numbers of `M:N`.
-fn numbers(value: &OsStr) -> Option<(u64, u64)> {
-    let (mount, node) = value.to_str()?.split_once(':')?;
-    Some((mount.parse().ok()?, node.parse().ok()?))
+fn demo_file(parts: &Parts) -> Result<Option<OsString>, String> {
+    match parts.operands.is_empty() {
+        true => Ok(None),
+        false => match only("demo", parts)? {
+            file if input::is_stdin(&file) => {
+                Err("demo writes its image to a file; write ./- for one of that name".into())
+            }
+            file => Ok(Some(file)),
+        },
+    }
+}
+
+fn query(parts: &Parts) -> Result<Query, String> {
+    let (image, paths) = parts.operands.split_first().ok_or("resolve wants IMAGE")?;
+    let handle = parts.value("--handle").map(|given| {
+        let wrong = || format!("--handle wants MOUNT:NODE, not {}", escape::name(given));
+        place::read(given).ok_or_else(wrong)
+    });
+    Ok(Query {
+        image: image.clone(),
+        source: source(image, paths, parts)?,
+        handle: handle.transpose()?,
+        mark: parts.has("--mark"),
+        how: how(parts)?,
+        json: parts.has("--json"),
+    })
+}
+
+fn source(image: &OsStr, paths: &[OsString], parts: &Parts) -> Result<Source, String> {
+    let null = parts.has("--null");
+    match (parts.value("--paths-from"), paths) {
+        (None, _) if null => Err("--null wants --paths-from".into()),
+        (None, []) => Err("resolve wants PATH, or --paths-from".into()),
+        (None, paths) => Ok(Source::Given(paths.to_vec())),
+        (Some(_), [path, ..]) => {
+            Err(format!("--paths-from and the path {} exclude each other", escape::name(path)))
+        }
+        (Some(file), []) if input::is_stdin(file) && input::is_stdin(image) => {
+            Err("IMAGE and --paths-from cannot both be standard input".into())
+        }
+        (Some(file), []) => {
+            Ok(Source::List { file: file.clone(), end: if null { 0 } else { b'\n' } })
+        }
+    }
+}
+
+fn how(parts: &Parts) -> Result<Vec<u8>, String> {
+    parts.exclude("--how", "--flag")?;
+    parts.exclude("--how", "--resolve")?;
+    if let Some(given) = parts.value("--how") {
+        let wrong = || format!("--how wants bytes in hexadecimal, not {}", escape::name(given));
+        return bytes(given).ok_or_else(wrong);
+    }
+    let mut how = OpenHow::new();
+    for given in parts.values("--flag") {
+        let bits =
+            bits("flag", given, Flags::NAMED, |name| Flags::from_name(name).map(Flags::bits));
+        how.flags |= Flags::from_bits_retain(bits?);
+    }
+    for given in parts.values("--resolve") {
+        let bit = |name: &str| Resolve::from_name(name).map(Resolve::bits);
+        let bits = bits("resolve bit", given, Resolve::NAMED, bit);
+        how.resolve |= Resolve::from_bits_retain(bits?);
+    }
+    Ok(how.to_bytes().to_vec())
+}
+
+/// The bits of names with commas between them, in letters of either case, and of
+/// numbers in hexadecimal.
+fn bits<T>(
+    what: &str,
+    given: &OsStr,
+    named: &[(&str, T)],
+    from_name: impl Fn(&str) -> Option<u64>,
+) -> Result<u64, String> {
+    let number = |part: &str| {
+        let digits = part.strip_prefix("0x").filter(|digits| !digits.starts_with('+'))?;
+        u64::from_str_radix(digits, 16).ok()
+    };
+    // What is no text is no name either.
+    let given = given.to_string_lossy();
+    given.split(',').try_fold(0, |bits, part| {
+        let bit = from_name(&part.to_ascii_uppercase()).or_else(|| number(part));
+        let bit = bit.ok_or_else(|| {
+            let names: Vec<&str> = named.iter().map(|(name, _)| *name).collect();
+            let part = escape::text(part.as_bytes());
+            format!("no {what} is named \"{part}\"; there are {}", names.join(", "))
+        })?;
+        Ok(bits | bit)
+    })
 }
 
 /// The bytes of pairs of hexadecimal digits.

@@ -23,7 +23,7 @@ pub use errno::Errno;
 pub use how::{Flags, OpenHow, Resolve};
 pub use path::AsPath;
 pub use place::{Handle, Place};
-pub use records::{Entries, Entry, Mount, Mounts, Node, Nodes};
+pub use records::{Cause, Entries, Entry, Mount, Mounts, Node, Nodes, Record};
 pub use table::Table;
 
 /// Checks a table image. [`Table::new`] checks it too, and keeps the verdict.

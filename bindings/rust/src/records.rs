@@ -5,6 +5,10 @@
 //! 5). So no reader hands out an `Option`. Should a byte be missing all the same,
 //! it is the part around it that reads as empty; nothing panics.
 
+mod cause;
+
+pub use cause::{Cause, Record};
+
 use crate::Place;
 use core::fmt;
 use core::iter::{Enumerate, FusedIterator};
@@ -146,19 +150,17 @@ impl<'a> Parts<'a> {
     }
 
     fn node(self, record: &[u8; NODE]) -> Node<'a> {
-        let [k0, k1, p0, p1, f0, f1, f2, f3, c0, c1, c2, c3] = *record;
-        let first = u32::from_le_bytes([f0, f1, f2, f3]);
-        let count = u32::from_le_bytes([c0, c1, c2, c3]);
-        match u16::from_le_bytes([k0, k1]) {
+        let [kind, parent, first, count] = node_fields(record);
+        match kind {
             1 => {
                 let records = part(self.entries, first, count).iter();
                 let entries = Entries { text: self.text, records };
-                Node::Directory { parent: field([p0, p1]), entries }
+                Node::Directory { parent, entries }
             }
             2 => Node::File {},
             3 => Node::Link { body: part(self.text, first, count) },
             // Kind 4: rule 4 leaves no other.
-            _ => Node::MagicLink { target: Place { mount: first.into(), node: count.into() } },
+            _ => Node::MagicLink { target: Place { mount: first, node: count } },
         }
     }
 }
@@ -171,13 +173,35 @@ fn records<const N: usize>(bytes: &[u8], count: [u8; 2]) -> (&[[u8; N]], &[u8]) 
 }
 
 /// `count` records or bytes from `first` on.
-fn part<T>(of: &[T], first: u32, count: u32) -> &[T] {
+fn part<T>(of: &[T], first: u64, count: u64) -> &[T] {
     let from = of.get(first as usize..);
     from.and_then(|from| from.get(..count as usize)).unwrap_or_default()
 }
 
-fn field(bytes: [u8; 2]) -> u64 {
+/// Kind, parent, first and count.
+fn node_fields(record: &[u8; NODE]) -> [u64; 4] {
+    let [k0, k1, p0, p1, f0, f1, f2, f3, c0, c1, c2, c3] = *record;
+    [short([k0, k1]), short([p0, p1]), long([f0, f1, f2, f3]), long([c0, c1, c2, c3])]
+}
+
+/// Root, parent, point and zero.
+fn mount_fields(record: &[u8; MOUNT]) -> [u64; 4] {
+    let [r0, r1, p0, p1, n0, n1, z0, z1] = *record;
+    [[r0, r1], [p0, p1], [n0, n1], [z0, z1]].map(short)
+}
+
+/// Offset and length of the name, and the node.
+fn entry_fields(record: &[u8; ENTRY]) -> [u64; 3] {
+    let [o0, o1, o2, o3, l0, l1, n0, n1] = *record;
+    [long([o0, o1, o2, o3]), short([l0, l1]), short([n0, n1])]
+}
+
+fn short(bytes: [u8; 2]) -> u64 {
     u16::from_le_bytes(bytes).into()
+}
+
+fn long(bytes: [u8; 4]) -> u64 {
+    u32::from_le_bytes(bytes).into()
 }
 
 /// The nodes of a table with their numbers, by [`Table::nodes`](crate::Table::nodes).
@@ -244,19 +268,15 @@ impl<'a> Nodes<'a> {
 
 impl<'a> Entries<'a> {
     fn read(&self, record: &[u8; ENTRY]) -> Entry<'a> {
-        let [o0, o1, o2, o3, l0, l1, n0, n1] = *record;
-        let offset = u32::from_le_bytes([o0, o1, o2, o3]);
-        let len = u16::from_le_bytes([l0, l1]).into();
-        Entry { name: part(self.text, offset, len), node: field([n0, n1]) }
+        let [offset, length, node] = entry_fields(record);
+        Entry { name: part(self.text, offset, length), node }
     }
 }
 
 impl Mounts<'_> {
     fn read(&self, (number, record): (usize, &[u8; MOUNT])) -> (u64, Mount) {
-        let [r0, r1, p0, p1, n0, n1, ..] = *record;
-        let mount =
-            Mount { root: field([r0, r1]), parent: field([p0, p1]), point: field([n0, n1]) };
-        (number as u64, mount)
+        let [root, parent, point, _] = mount_fields(record);
+        (number as u64, Mount { root, parent, point })
     }
 }
 

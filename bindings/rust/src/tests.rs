@@ -1,5 +1,6 @@
 //! Calls and their answers.
 
+mod causes;
 mod errors;
 mod paths;
 mod sets;

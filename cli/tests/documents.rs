@@ -1,0 +1,115 @@
+//! The man page and the completion tell what the program has.
+
+mod common;
+
+use common::answer;
+use std::collections::BTreeSet;
+use std::path::{Path, PathBuf};
+use std::process::Command;
+
+const PAGE: &str = include_str!("../../docs/man/ventolaire.1");
+const COMPLETION: &str = include_str!("../../completions/ventolaire.bash");
+const COMMANDS: [&str; 4] = ["check", "show", "resolve", "demo"];
+
+fn file(name: &str) -> PathBuf {
+    Path::new(env!("CARGO_MANIFEST_DIR")).join("..").join(name)
+}
+
+/// The words of a text that begin with a dash, and the names of bits.
+fn words(text: &str) -> BTreeSet<String> {
+    let is_part = |char: char| char.is_ascii_alphanumeric() || "-_".contains(char);
+    let words = text.split(|char| !is_part(char));
+    let is_option = |word: &&str| {
+        let bare = word.trim_start_matches('-');
+        word.starts_with('-') && !bare.is_empty()
+            || ["O_", "RESOLVE_"].iter().any(|prefix| word.len() > 8 && word.starts_with(prefix))
+            || *word == "O_PATH"
+    };
+    words.filter(is_option).map(String::from).collect()
+}
+
+#[test]
+fn man_page_and_completion_name_every_option() {
+    let (_, help) = answer(["--help"]);
+    // Those of other programs stand in examples.
+    let help = help.split("EXAMPLE").next().unwrap();
+    let told = words(help);
+    assert!(told.len() >= 22, "{told:?}");
+    let page = PAGE.replace("\\-", "-");
+    for (name, text) in [("the man page", page.as_str()), ("the completion", COMPLETION)] {
+        let named = words(text);
+        for word in &told {
+            assert!(named.contains(word), "{name} does not name {word}");
+        }
+        for command in COMMANDS {
+            assert!(text.contains(command), "{name} does not name {command}");
+        }
+    }
+    for word in words(&COMPLETION.replace(" -o ", " ").replace(" -P ", " ")) {
+        let of_bash = word.len() == 2 && !told.contains(&word);
+        assert!(of_bash || told.contains(&word) || word == "-eq", "there is no {word}");
+    }
+}
+
+#[test]
+fn the_man_page_has_the_version_and_every_section() {
+    let title = format!("\"ventolaire {}\"", env!("CARGO_PKG_VERSION"));
+    assert!(PAGE.lines().next().unwrap().contains(&title));
+    for section in ["NAME", "SYNOPSIS", "OPTIONS", "JSON", "\"EXIT STATUS\"", "EXAMPLES"] {
+        let plain = format!(".SH {}\n", section.trim_matches('"'));
+        assert!(PAGE.contains(&plain), "{section}");
+    }
+}
+
+/// Where there is a groff.
+#[test]
+fn the_man_page_is_set_without_a_warning() {
+    let page = file("docs/man/ventolaire.1");
+    let groff = Command::new("groff").args(["-man", "-Tutf8", "-ww"]).arg(page).output();
+    if let Ok(output) = groff {
+        assert_eq!(String::from_utf8_lossy(&output.stderr), "");
+        assert!(output.status.success());
+    }
+}
+
+/// What bash offers behind these words.
+fn completed(words: &[&str]) -> Vec<String> {
+    let script = r#". "$0"; COMP_WORDS=("$@"); COMP_CWORD=$(($# - 1)); _ventolaire
+        printf '%s\n' "${COMPREPLY[@]}""#;
+    let mut bash = Command::new("bash");
+    bash.args(["--norc", "-c", script]).arg(file("completions/ventolaire.bash"));
+    let output = bash.arg("ventolaire").args(words).current_dir(file("cli")).output().unwrap();
+    assert_eq!(String::from_utf8_lossy(&output.stderr), "");
+    let lines = String::from_utf8(output.stdout).unwrap();
+    lines.lines().filter(|line| !line.is_empty()).map(String::from).collect()
+}
+
+/// Where there is a bash.
+#[test]
+fn the_completion_completes() {
+    if Command::new("bash").arg("--version").output().is_err() {
+        return;
+    }
+    let rows: &[(&[&str], &[&str])] = &[
+        (&["s"], &["show"]),
+        (&["--v"], &["--version"]),
+        (&["show", "Cargo.t"], &["Cargo.toml"]),
+        (&["show", "x", "--"], &["--dot", "--json", "--help"]),
+        (&["resolve", "x", "--pa"], &["--paths-from"]),
+        (&["resolve", "x", "--flag", "O_D"], &["O_DIRECTORY"]),
+        (&["resolve", "x", "--flag", "=", "O_D"], &["O_DIRECTORY"]),
+        (&["resolve", "x", "--flag", "O_PATH,O_N"], &["O_PATH,O_NOFOLLOW"]),
+        (
+            &["resolve", "x", "--resolve", "RESOLVE_NO_"],
+            &["RESOLVE_NO_XDEV", "RESOLVE_NO_SYMLINKS", "RESOLVE_NO_MAGICLINKS"],
+        ),
+        (&["resolve", "x", "--paths-from", "rustf"], &["rustfmt.toml"]),
+        (&["resolve", "x", "--handle", ""], &[]),
+        (&["nothing", "x"], &[]),
+    ];
+    for (words, offered) in rows {
+        assert_eq!(completed(words), *offered, "{words:?}");
+    }
+    assert_eq!(completed(&["resolve", "x", "--flag", "="]).len(), 4);
+    assert_eq!(completed(&["resolve", "x", "--resolve", ""]).len(), 5);
+}

@@ -1,0 +1,131 @@
+//! Help, and wrong usage.
+
+mod common;
+
+use common::{answer, error, program};
+use std::ffi::OsString;
+use std::os::unix::ffi::OsStringExt;
+
+#[test]
+fn help_and_version_are_given() {
+    let (status, help) = answer(["--help"]);
+    assert_eq!(status, 0);
+    assert!(help.contains("USAGE") && help.contains("EXIT STATUS") && help.contains("(default: "));
+    for arguments in [&["-h"][..], &["help"], &["resolve", "--help"], &["check", "x", "-h"]] {
+        assert_eq!(answer(arguments), (0, help.clone()));
+    }
+    for name in names() {
+        assert!(help.contains(name));
+    }
+    assert!(help.lines().all(|line| line.chars().count() <= 80));
+    let version = concat!("ventolaire ", env!("CARGO_PKG_VERSION"), "\n");
+    assert_eq!(answer(["--version"]), (0, version.into()));
+    assert_eq!(answer(["-V"]), (0, version.into()));
+}
+
+fn names() -> impl Iterator<Item = &'static str> {
+    let flags = ventolaire::Flags::NAMED.iter().map(|(name, _)| *name);
+    flags.chain(ventolaire::Resolve::NAMED.iter().map(|(name, _)| *name))
+}
+
+#[test]
+fn wrong_usage_is_told_in_one_line() {
+    let rows: &[(&[&str], &str)] = &[
+        (&[], "no command given; see ventolaire --help"),
+        (&["chekc"], "no command is named chekc; see ventolaire --help"),
+        (&["check"], "check wants IMAGE"),
+        (&["check", "a", "b"], "check has no use for b"),
+        (&["check", "--dot", "a"], "check has no option --dot"),
+        (&["show", "a", "--dots"], "there is no option --dots"),
+        (&["show", "a", "-1"], "there is no option -1"),
+        (&["show", "a", "--dot=x"], "--dot takes no value"),
+        (&["show", "a", "--dot", "--json"], "--dot and --json exclude each other"),
+        (&["demo", "a", "b"], "demo has no use for b"),
+        (&["demo", "-"], "demo writes its image to a file; write ./- for one of that name"),
+        (&["resolve"], "resolve wants IMAGE"),
+        (&["resolve", "a"], "resolve wants PATH, or --paths-from"),
+        (&["resolve", "a", "b", "-0"], "--null wants --paths-from"),
+        (
+            &["resolve", "a", "b", "--paths-from", "c"],
+            "--paths-from and the path b exclude each other",
+        ),
+        (
+            &["resolve", "-", "--paths-from", "-"],
+            "IMAGE and --paths-from cannot both be standard input",
+        ),
+        (&["resolve", "a", "b", "--handle"], "--handle wants a value"),
+        (&["resolve", "a", "b", "--how", "0"], "--how wants bytes in hexadecimal, not 0"),
+        (&["resolve", "a", "b", "--how", "0x"], "--how wants bytes in hexadecimal, not 0x"),
+        (
+            &["resolve", "a", "b", "--how", "00", "--flag", "PATH"],
+            "--how and --flag exclude each other",
+        ),
+    ];
+    for (arguments, text) in rows {
+        assert_eq!(error(*arguments), *text, "{arguments:?}");
+    }
+}
+
+#[test]
+fn a_place_is_two_numbers() {
+    for place in ["1", "-1:0", "+1:0", "1:", ":", "0,1", "(0:1)", "0:1 ", "1:18446744073709551616"]
+    {
+        let text = format!("--handle wants MOUNT:NODE, not {place}");
+        assert_eq!(error(["resolve", "a", "b", "--handle", place]), text);
+    }
+}
+
+#[test]
+fn unknown_names_of_bits_are_told() {
+    for (option, given, wrong, what) in [
+        ("--flag", "O_BELOW", "O_BELOW", "flag"),
+        ("--flag", "PATH,", "", "flag"),
+        ("--flag", "0x", "0x", "flag"),
+        ("--resolve", "BENEATH,CACHED", "CACHED", "resolve bit"),
+        ("--resolve", "0x10000000000000000", "0x10000000000000000", "resolve bit"),
+        ("--resolve", "8", "8", "resolve bit"),
+        ("--resolve", "0x+8", "0x+8", "resolve bit"),
+    ] {
+        let text = error(["resolve", "a", "b", option, given]);
+        let start = format!("no {what} is named \"{wrong}\"; there are ");
+        assert!(text.starts_with(&start), "{text}");
+    }
+    let flags = "O_DIRECTORY, O_NOFOLLOW, O_CLOEXEC, O_PATH";
+    assert!(error(["resolve", "a", "b", "--flag", "x"]).ends_with(flags));
+}
+
+/// What is given may be no text, or hide what it says.
+#[test]
+fn messages_are_escaped() {
+    let bytes = |bytes: &[u8]| OsString::from_vec(bytes.to_vec());
+    let odd = bytes(b"\x1b[2J\n\xff\xe2\x80\xae");
+    let shown = "\\x1b[2J\\n\\xff\\u202e";
+    let no_file = format!("cannot read {shown}: No such file or directory (os error 2)");
+    let [check, resolve, demo] = ["check", "resolve", "demo"].map(OsString::from);
+    assert!(error([odd.clone()]).contains(shown));
+    assert_eq!(error([check.clone(), odd.clone()]), no_file);
+    assert_eq!(error([resolve.clone(), odd.clone(), "a".into()]), no_file);
+    assert!(error([check.clone(), "a".into(), odd.clone()]).ends_with(shown));
+    let there = bytes(b"/no/\x07");
+    assert!(error([demo, there]).starts_with("cannot write /no/\\x07: "));
+    let option = bytes(b"--\xff=\x1b");
+    assert_eq!(error([check, option]), "there is no option --\\xff=\\x1b");
+    for option in ["--handle", "--how", "--flag"] {
+        let given = ["resolve", "a", "b", option].map(OsString::from);
+        let line = error(given.into_iter().chain([odd.clone()]));
+        assert!(line.contains("\\x1b[2J\\n") && !line.contains('\x1b'), "{line}");
+    }
+    // A file's name behind an equals sign may be any bytes.
+    let joined = bytes(b"--paths-from=/no/\xff");
+    let image = OsString::from(env!("CARGO_BIN_EXE_ventolaire"));
+    let line = error([resolve, image, joined]);
+    assert!(line.starts_with("cannot read /no/\\xff: "), "{line}");
+}
+
+/// Without a place to tell an error there is its status.
+#[test]
+fn an_error_that_cannot_be_told_is_still_one() {
+    let full = std::fs::File::options().write(true).open("/dev/full").unwrap();
+    let status = program().arg("chekc").stderr(full).status().unwrap();
+    assert_eq!(status.code(), Some(2));
+}
