@@ -103,7 +103,7 @@ fn the_completion_completes() {
             &["resolve", "x", "--resolve", "RESOLVE_NO_"],
             &["RESOLVE_NO_XDEV", "RESOLVE_NO_SYMLINKS", "RESOLVE_NO_MAGICLINKS"],
         ),
-        (&["resolve", "x", "--paths-from", "rustf"], &["rustfmt.toml"]),
+        (&["resolve", "x", "--paths-from", "Cargo.t"], &["Cargo.toml"]),
         (&["resolve", "x", "--handle", ""], &[]),
         (&["nothing", "x"], &[]),
     ];

@@ -33,48 +33,7 @@ use crate::{Errno, Flags, Found, Handle, OpenHow, Place, Refusal, Resolve};
 /// ```
 /// assert_eq!(ventolaire::check(ventolaire::bench_tree::IMAGE), Ok(()));
 /// ```
-#[rustfmt::skip]
-pub const IMAGE: &[u8] = &[
-    b'T', b'O', b'C', b'1',
-    // Counts of nodes, mounts and entries, zero; lengths of the text and of all.
-    12, 0, 2, 0, 10, 0, 0, 0,
-    56, 0, 0, 0, 60, 1, 0, 0,
-    // Nodes: kind, parent, first, count.
-    1, 0, 0, 0, 0, 0, 0, 0, 1, 0, 0, 0,   // 0 top: directory, parent 0
-    1, 0, 0, 0, 1, 0, 0, 0, 2, 0, 0, 0,   // 1 "lab": directory, parent 0
-    1, 0, 1, 0, 3, 0, 0, 0, 6, 0, 0, 0,   // 2 "cal": directory, parent 1
-    2, 0, 0, 0, 0, 0, 0, 0, 0, 0, 0, 0,   // 3 "tare": file
-    3, 0, 0, 0, 10, 0, 0, 0, 5, 0, 0, 0,  // 4 "up": link to ../..
-    3, 0, 0, 0, 17, 0, 0, 0, 13, 0, 0, 0, // 5 "abs": link to /lab/cal/tare
-    3, 0, 0, 0, 33, 0, 0, 0, 4, 0, 0, 0,  // 6 "loop": link to loop
-    1, 0, 1, 0, 9, 0, 0, 0, 0, 0, 0, 0,   // 7 "pool": directory, parent 1
-    1, 0, 8, 0, 9, 0, 0, 0, 1, 0, 0, 0,   // 8 second top: directory, parent 8
-    2, 0, 0, 0, 0, 0, 0, 0, 0, 0, 0, 0,   // 9 "run": file
-    4, 0, 0, 0, 0, 0, 0, 0, 3, 0, 0, 0,   // 10 "fd": magic link to (0,3)
-    3, 0, 0, 0, 50, 0, 0, 0, 5, 0, 0, 0,  // 11 "t": link to tare/
-    // Mounts: root, parent mount, mount point, zero.
-    0, 0, 0, 0, 0, 0, 0, 0, // 0: root 0
-    8, 0, 0, 0, 7, 0, 0, 0, // 1: root 8, on (0,7)
-    // Entries: place and length of the name, node.
-    0, 0, 0, 0, 3, 0, 1, 0,   // 0: "lab" in 0
-    3, 0, 0, 0, 3, 0, 2, 0,   // 1: "cal" in 1
-    41, 0, 0, 0, 4, 0, 7, 0,  // 2: "pool" in 1
-    30, 0, 0, 0, 3, 0, 5, 0,  // 3: "abs" in 2
-    48, 0, 0, 0, 2, 0, 10, 0, // 4: "fd" in 2
-    37, 0, 0, 0, 4, 0, 6, 0,  // 5: "loop" in 2
-    55, 0, 0, 0, 1, 0, 11, 0, // 6: "t" in 2
-    6, 0, 0, 0, 4, 0, 3, 0,   // 7: "tare" in 2
-    15, 0, 0, 0, 2, 0, 4, 0,  // 8: "up" in 2
-    45, 0, 0, 0, 3, 0, 9, 0,  // 9: "run" in 8
-    // Text.
-    b'l', b'a', b'b', b'c', b'a', b'l',
-    b't', b'a', b'r', b'e', b'.', b'.', b'/', b'.', b'.',
-    b'u', b'p',
-    b'/', b'l', b'a', b'b', b'/', b'c', b'a', b'l', b'/', b't', b'a', b'r', b'e',
-    b'a', b'b', b's', b'l', b'o', b'o', b'p', b'l', b'o', b'o', b'p',
-    b'p', b'o', b'o', b'l', b'r', b'u', b'n', b'f', b'd',
-    b't', b'a', b'r', b'e', b'/', b't',
-];
+pub const IMAGE: &[u8] = include_bytes!("../../../examples/bench_tree.toc");
 
 /// A call on the bench tree and its answer.
 ///
