@@ -44,7 +44,7 @@ pub const IMAGE: &[u8] = include_bytes!("../../../examples/bench_tree.toc");
 #[derive(Clone, Copy, Debug)]
 #[non_exhaustive]
 pub struct Row {
-    /// As the project's scope names it, or "-".
+    /// As RULES 13.4 names it, or "-".
     pub name: &'static str,
     /// Where the path starts.
     pub handle: Handle,
