@@ -48,10 +48,10 @@ fn files_that_are_not_there() {
 #[test]
 fn folders() {
     unreadable("/", "Is a directory (os error 21)");
-    assert_eq!(error(["demo", "/"]), "cannot write /: File exists (os error 17)");
     let folder = Named::new();
     fs::create_dir(&folder.0).unwrap();
-    error(["demo", folder.path()]);
+    let there = format!("cannot write {}: File exists (os error 17)", folder.path());
+    assert_eq!(error(["demo", folder.path()]), there);
     assert_eq!(fs::read_dir(&folder.0).unwrap().count(), 0);
 }
 
@@ -195,5 +195,20 @@ fn a_full_disk() {
         let output = program().args(*arguments).stdout(full).output().unwrap();
         assert_eq!(failed(output), "cannot print: No space left on device (os error 28)");
     }
-    assert_eq!(error(["demo", "/dev/full"]), "cannot write /dev/full: File exists (os error 17)");
+}
+
+/// What could not be written whole is taken back. The test gives `demo` names in its
+/// own folder alone: a program that is wrong here may remove what it is given.
+#[test]
+fn an_image_that_cannot_be_written_whole() {
+    let file = Named::new();
+    let script = r#"trap '' XFSZ; ulimit -f 0; exec "$0" demo "$1""#;
+    let program = env!("CARGO_BIN_EXE_ventolaire");
+    let Ok(output) = Command::new("bash").args(["-c", script, program, file.path()]).output()
+    else {
+        return;
+    };
+    let message = format!("cannot write {}: File too large (os error 27)", file.path());
+    assert_eq!(failed(output), message);
+    assert!(!file.0.exists());
 }

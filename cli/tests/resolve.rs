@@ -89,6 +89,9 @@ a\\tb\\u202e\tENOENT (2); 1 component, 0 links
     assert_eq!(image.resolve(&paths), (1, text.into()));
     let all = "lab\t0:1; 1 component, 0 links\n/\t0:0; 0 components, 0 links\n";
     assert_eq!(image.resolve(&["lab", "/"]), (0, all.into()));
+    // One that is refused is enough, wherever it stands.
+    assert_eq!(image.resolve(&["no", "lab"]).0, 1);
+    assert_eq!(image.resolve(&["lab", "no"]).0, 1);
     let path = OsString::from_vec(b"\xff".to_vec());
     let (status, text) = answer(["resolve".into(), image.path().into(), path.clone(), path]);
     assert_eq!((status, text.lines().count()), (1, 2));
