@@ -2,7 +2,7 @@
 use Prim.Native.Nat.{ℕ}
 use mathlib.Core.List.{List}
 use mathlib.Core.Option.{Option, none, some}
-use mathlib.Core.Path.{_≡_, sym, ap, _∙_}
+use mathlib.Core.Path.{_≡_, sym, _∙_}
 use Rattle.model.specs.Tree.{Tree}
 use Rattle.model.specs.TableCheck.{rule4, rule5, rule6, rule7, recordsCheck}
 use Rattle.model.specs.declared.Verdict.the-variants.{Accepted, Broken}
