@@ -6,6 +6,7 @@ use mathlib.Core.Option.{some}
 use mathlib.Core.Path.{_≡_, sym, ap, ap₂, _∙_, subst}
 use native.Mathlib.Omega.{arith}
 use borrow.Author.Tests.{eq-eqb, ne-eqb, not-true, not-false}
+use lib.Dec.{eqb}
 use Rattle.model.specs.Bytes.{has}
 use Rattle.model.specs.OpenHow.{NO-XDEV, BENEATH}
 use Rattle.model.specs.Resolve.{restrictionsBy}
@@ -27,6 +28,16 @@ use Rattle.request.specs.declared.Request.{Request}
 use Rattle.component.specs.Outcomes.{moveOutcome, MovesUnder, upFrom}
 use Rattle.component.specs.declared.Outcome.{Outcome}
 use Rattle.component.specs.declared.Outcome.the-variants.{Stop, Go}
+
+-- two places
+module _ (p q : Place) where
+  pub other-mount : (p .mount ≡ q .mount → ⊥) → false ≡ samePlace p q
+  unfolding samePlace
+  other-mount n = rw (ne-eqb (p .mount) (q .mount) n)
+
+  pub one-mount : p .mount ≡ q .mount → eqb (p .node) (q .node) ≡ samePlace p q
+  unfolding samePlace
+  one-mount e = rw (eq-eqb (p .mount) (q .mount) e)
 
 -- the mount that covers a place
 module _ (t : Tree) (p : Place) (bits : ℕ) {found : Search} (found-is : found ≡ searchOf (mountOn t p)) where

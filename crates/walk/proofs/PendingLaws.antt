@@ -59,7 +59,7 @@ module _ {s path stack : List ℕ} {w : Walk} (r : Resting s path stack w) where
       ∙ ap₂ _&&_ (left-empty (textOf (treeOf s) path (w .text)) (w .at) (r .placed .stands) (w .text)) (suspended-empty (treeOf s) path stack (w .depth) (r .each))
 
   -- at the text's end only the suspended texts are left
-  pub pending-ended : w .at ≡ length (textOf (treeOf s) path (w .text)) → pending (treeOf s) path stack w ≡ suspended (treeOf s) path stack (w .depth)
+  pending-ended : w .at ≡ length (textOf (treeOf s) path (w .text)) → pending (treeOf s) path stack w ≡ suspended (treeOf s) path stack (w .depth)
   pending-ended e =
       ap (λ xs. xs ++ suspended (treeOf s) path stack (w .depth)) (ap (leftIn (treeOf s) path (w .text)) e ∙ left-end (w .text) (textOf (treeOf s) path (w .text)))
 
@@ -140,45 +140,35 @@ module _ {s path stack : List ℕ} {w : Walk} (r : Resting s path stack w) (room
     some-left = rw (packed-text, packed-at) h;
   }
 
-  pushed : w .at < length (textOf (treeOf s) path (w .text))
-      → Entered s path stack w state n start (set stack (w .depth) (w .text * 4096 + w .at)) (record { state = state; text = n; at = start; depth = w .depth + 1 })
-  unfolding suspended
-  pushed h = record {
-    state-is = refl;
-    text-is = refl;
-    at-is = refl;
-    depth-few = le-refl (w .depth + 1);
-    same-length = length-set stack (w .depth) (w .text * 4096 + w .at);
-    behind = rw (add-one (w .depth)) (ap₂ _++_ top (suspended-ext (treeOf s) path stack (set stack (w .depth) (w .text * 4096 + w .at)) (w .depth) pushed-same));
-    each = λ i l.
-        ⊎-elim
-        (λ (e : i ≡ w .depth). subst (Suspended (treeOf s) path) (sym (ap (λ (j : ℕ). getD (set stack (w .depth) (w .text * 4096 + w .at)) j 0) e ∙ pushed-top)) (here-suspended h))
-        (λ (u : i < w .depth). subst (Suspended (treeOf s) path) (sym (pushed-same i u)) (r .each i u))
-        (eq-or-lt-of-le {n = i} {m = w .depth} (omega arith));
-  }
-    where
-      top : leftIn (treeOf s) path (getD (set stack (w .depth) (w .text * 4096 + w .at)) (w .depth) 0 / 4096)
-          (getD (set stack (w .depth) (w .text * 4096 + w .at)) (w .depth) 0 % 4096) ≡ leftIn (treeOf s) path (w .text) (w .at)
-      top = rw (pushed-top, packed-text, packed-at)
+  module _ {x : List ℕ} (text-is : x ≡ textOf (treeOf s) path (w .text)) {end : Bool} (end-is : end ≡ eqb (w .at) (length x)) where
+    pub entered-pushed : not end ≡ true
+        → Entered s path stack w state n start (set stack (w .depth) (w .text * 4096 + w .at)) (record { state = state; text = n; at = start; depth = w .depth + 1 })
+    unfolding suspended
+    entered-pushed h = record {
+      state-is = refl;
+      text-is = refl;
+      at-is = refl;
+      depth-few = le-refl (w .depth + 1);
+      same-length = length-set stack (w .depth) (w .text * 4096 + w .at);
+      behind = rw (add-one (w .depth)) (ap₂ _++_ top (suspended-ext (treeOf s) path stack (set stack (w .depth) (w .text * 4096 + w .at)) (w .depth) pushed-same));
+      each = λ i l.
+          ⊎-elim
+          (λ (e : i ≡ w .depth). subst (Suspended (treeOf s) path) (sym (ap (λ (j : ℕ). getD (set stack (w .depth) (w .text * 4096 + w .at)) j 0) e ∙ pushed-top)) (here-suspended (unended r text-is end-is h)))
+          (λ (u : i < w .depth). subst (Suspended (treeOf s) path) (sym (pushed-same i u)) (r .each i u))
+          (eq-or-lt-of-le {n = i} {m = w .depth} (omega arith));
+    }
+      where
+        top : leftIn (treeOf s) path (getD (set stack (w .depth) (w .text * 4096 + w .at)) (w .depth) 0 / 4096)
+            (getD (set stack (w .depth) (w .text * 4096 + w .at)) (w .depth) 0 % 4096) ≡ leftIn (treeOf s) path (w .text) (w .at)
+        top = rw (pushed-top, packed-text, packed-at)
 
-  left-ended : w .at ≡ length (textOf (treeOf s) path (w .text))
-      → Entered s path stack w state n start stack (record { state = state; text = n; at = start; depth = w .depth })
-  left-ended e = record {
-    state-is = refl;
-    text-is = refl;
-    at-is = refl;
-    depth-few = omega arith;
-    same-length = refl;
-    behind = sym (pending-ended r e);
-    each = r .each;
-  }
-
--- by what was read
-module _ {s path stack : List ℕ} {w : Walk} (r : Resting s path stack w) (room : w .depth < 40) (state : State) (n start : ℕ) {x : List ℕ}
-    (text-is : x ≡ textOf (treeOf s) path (w .text)) {end : Bool} (end-is : end ≡ eqb (w .at) (length x)) where
-  pub entered-pushed : not end ≡ true
-      → Entered s path stack w state n start (set stack (w .depth) (w .text * 4096 + w .at)) (record { state = state; text = n; at = start; depth = w .depth + 1 })
-  entered-pushed h = pushed r room state n start (unended r text-is end-is h)
-
-  pub entered-ended : not end ≡ false → Entered s path stack w state n start stack (record { state = state; text = n; at = start; depth = w .depth })
-  entered-ended h = left-ended r room state n start (ended r text-is end-is h)
+    pub entered-ended : not end ≡ false → Entered s path stack w state n start stack (record { state = state; text = n; at = start; depth = w .depth })
+    entered-ended h = record {
+      state-is = refl;
+      text-is = refl;
+      at-is = refl;
+      depth-few = omega arith;
+      same-length = refl;
+      behind = sym (pending-ended r (ended r text-is end-is h));
+      each = r .each;
+    }
