@@ -2,7 +2,7 @@
 use Prim.Native.Nat.{ℕ}
 use mathlib.Core.Bool.{Bool, true, false, cond}
 use mathlib.Core.List.{List}
-use mathlib.Core.Path.{_≡_, refl, ap}
+use mathlib.Core.Path.{_≡_, refl, sym, ap, _∙_}
 use native.Mathlib.Omega.{arith}
 use Rattle.model.specs.Bytes.{sameBytes, ascii}
 use Rattle.model.specs.Trace.{Restrictions, forbidAny}
@@ -10,6 +10,7 @@ use Rattle.model.specs.Walk.{Request, Step, stayAt, along, goUp, byName, oneCom
 use Rattle.model.specs.declared.Place.{Place}
 use Rattle.strings.specs.Dots.{dotsOf}
 use Rattle.component.specs.Outcomes.{moveOutcome, outcome}
+use Rattle.component.specs.declared.Outcome.{Outcome}
 use Rattle.component.specs.declared.Outcome.the-variants.{Go}
 
 -- a choice by "." and "..", from the number that tells them
@@ -29,15 +30,24 @@ pick-other false true x y z e f = absurd (f refl)
 pick-other false false x y z e f = refl
 
 -- one component, by what its name is
-module _ (R : Restrictions) (links : ℕ) (a : Request) (last : Bool) (p : Place) (s : List ℕ) where
-  pub one-dot : dotsOf s ≡ 1 → outcome R links (oneComponent a last p s) ≡ Go p
+module _ (R : Restrictions) (links : ℕ) (a : Request) (last : Bool) (p : Place) (s : List ℕ) {d : ℕ} (dots-are : d ≡ dotsOf s) where
+  abbrev Led : Outcome
+  Led = outcome R links (oneComponent a last p s)
+
+  pub one-dot : d ≡ 1 → Go p ≡ Led
   unfolding oneComponent forbidAny
-  one-dot e = ap (outcome R links) (pick-one (sameBytes s (ascii ".")) (sameBytes s (ascii "..")) (along (stayAt p)) (along (goUp a p)) (byName a last p s) e)
+  one-dot e = sym (ap (outcome R links)
+      (pick-one (sameBytes s (ascii ".")) (sameBytes s (ascii "..")) (along (stayAt p)) (along (goUp a p)) (byName a last p s) (sym dots-are ∙ e)))
 
-  pub two-dots : dotsOf s ≡ 2 → outcome R links (oneComponent a last p s) ≡ moveOutcome R (goUp a p)
+  pub two-dots : {r : Outcome} → d ≡ 2 → r ≡ moveOutcome R (goUp a p) → r ≡ Led
   unfolding oneComponent
-  two-dots e = ap (outcome R links) (pick-two (sameBytes s (ascii ".")) (sameBytes s (ascii "..")) (along (stayAt p)) (along (goUp a p)) (byName a last p s) e)
+  two-dots e is =
+      is ∙ sym (ap (outcome R links)
+      (pick-two (sameBytes s (ascii ".")) (sameBytes s (ascii "..")) (along (stayAt p)) (along (goUp a p)) (byName a last p s) (sym dots-are ∙ e)))
 
-  pub no-dots : (dotsOf s ≡ 1 → ⊥) → (dotsOf s ≡ 2 → ⊥) → outcome R links (oneComponent a last p s) ≡ outcome R links (byName a last p s)
+  pub no-dots : {r : Outcome} → (d ≡ 1 → ⊥) → (d ≡ 2 → ⊥) → r ≡ outcome R links (byName a last p s) → r ≡ Led
   unfolding oneComponent
-  no-dots e f = ap (outcome R links) (pick-other (sameBytes s (ascii ".")) (sameBytes s (ascii "..")) (along (stayAt p)) (along (goUp a p)) (byName a last p s) e f)
+  no-dots e f is =
+      is ∙ sym (ap (outcome R links)
+      (pick-other (sameBytes s (ascii ".")) (sameBytes s (ascii "..")) (along (stayAt p)) (along (goUp a p)) (byName a last p s)
+      (λ q. e (dots-are ∙ q)) (λ q. f (dots-are ∙ q))))

@@ -1,5 +1,6 @@
 mod DotLaws
 mod EnterLaws
+mod MoveLaws
 mod RowLaws
 mod LimitLaws
 mod StepLaws

@@ -1,10 +1,10 @@
 -- Following a link, by what was read: the first restriction that forbids one of its events decides. Assumes nothing.
-use Prim.Native.Nat.{ℕ}
+use Prim.Native.Nat.{ℕ, _+_, _≤_, _<_}
 use mathlib.Core.Bool.{Bool, true, false, cond, not, _&&_, _||_}
 use mathlib.Core.List.{List}
 use mathlib.Core.Option.{some, none}
 use mathlib.Core.Path.{_≡_, refl, sym, ap, ap₂, _∙_}
-use borrow.Author.Tests.{not-true, not-false}
+use borrow.Author.Tests.{eq-eqb, ne-eqb, not-true, not-false}
 use lib.Dec.{eqb, ltb}
 use Rattle.model.specs.Bytes.{has, orElse}
 use Rattle.model.specs.OpenHow.{NO-XDEV, NO-MAGICLINKS, NO-SYMLINKS, BENEATH, IN-ROOT}
@@ -14,7 +14,7 @@ use Rattle.model.specs.Tree.{treeOf}
 use Rattle.model.specs.Walk.{placeAt, outside, target, magicLink, symbolicLink, followLink, stepTo}
 use Rattle.model.specs.declared.Place.{Place}
 use Rattle.model.specs.declared.Errno.the-variants.{Enoent, Eloop, Exdev}
-use Rattle.laws.proofs.Acceptance.{accepted-sound}
+use Rattle.laws.proofs.Acceptance.{accepted-sound, symlink-facts}
 use Rattle.parts.specs.declared.records.Counts.{Counts}
 use Rattle.request.specs.Walking.{Walking}
 use Rattle.request.specs.Requests.{requestFor, restrictionsFor}
@@ -171,3 +171,15 @@ module _ (image : List ℕ) {c : Counts} (k : Request) (walking : Walking image 
 
 pub symbolic-kind : {kind : ℕ} (magic : Bool) → kind ≡ linkKind magic → magic ≡ false → kind ≡ 3
 symbolic-kind magic e m = e ∙ ap linkKind m
+
+pub body-held : {image : List ℕ} {c : Counts} {k : Request} (n : ℕ) → Walking image c k → n < treeOf image .nodes → treeOf image .kind n ≡ 3
+    → treeOf image .first n + treeOf image .count n ≤ treeOf image .textLength
+body-held {image} n walking below e = symlink-facts (treeOf image) (accepted-sound image (walking .reading .accepted) .nodes-hold) n below e .0
+
+-- another mount under NO_XDEV
+module _ (m n bits : ℕ) where
+  pub mount-same : m ≡ n → false ≡ not (eqb m n) && has NO-XDEV bits
+  mount-same e = rw (eq-eqb m n e)
+
+  pub mount-other : {bar : Bool} → (m ≡ n → ⊥) → bar ≡ has NO-XDEV bits → bar ≡ not (eqb m n) && has NO-XDEV bits
+  mount-other d is = is ∙ rw (ne-eqb m n d)

@@ -10,23 +10,28 @@ use Rattle.model.specs.OpenHow.{O-DIRECTORY, IN-ROOT, flagsOf}
 use Rattle.model.specs.Path.{endsInSlash}
 use Rattle.model.specs.Trace.{answer}
 use lib.ListN.{length}
-use Rattle.model.specs.Answers.{notWalked, refused}
+use Rattle.model.specs.Answers.{notWalked, refused, progressOf}
 use Rattle.model.specs.TableCheck.{tableCheck}
 use Rattle.model.specs.declared.Errno.the-variants.{Euclean}
+use Rattle.model.specs.declared.Verdict.{Verdict}
 use Rattle.model.specs.declared.Verdict.the-variants.{Accepted, Broken}
 use Rattle.model.specs.Handles.{placeOf}
 use Rattle.model.specs.Tree.{treeOf}
 use Rattle.model.specs.Walk.{walkPath}
-use Rattle.laws.proofs.Acceptance.{accepted-sound}
+use Rattle.laws.proofs.Acceptance.{accepted-sound, accepted-sized}
 use Rattle.laws.specs.Inside.{Inside}
-use Rattle.theorems.proofs.Bounds.{either-root-inside}
+use Rattle.theorems.specs.Bounded.{Bounded}
+use Rattle.theorems.proofs.Bounds.{either-root-inside, every-walk-bounded}
 use Rattle.laws.proofs.Refusals.{unrefused, path-short, handle-inside}
 use Rattle.parts.specs.declared.records.Counts.{Counts}
+use Rattle.image.specs.Counts.{countsOf, Counted}
+use Rattle.image.proofs.CountLaws.{counted}
 use Rattle.request.specs.Walking.{Reading, Walking}
 use Rattle.request.specs.declared.Request.{Request}
-use Rattle.model.specs.Resolve.{callOf, refusedBefore, restrictions, requestOf, traceOf, resolve}
+use Rattle.model.specs.Resolve.{Call, callOf, refusedBefore, restrictions, requestOf, traceOf, resolve}
 use Rattle.model.specs.declared.Handle.{Handle}
 use Rattle.model.specs.declared.Refusal.{Refusal}
+use Rattle.model.specs.declared.Answer.{Answer}
 use Rattle.model.specs.declared.Answer.the-variants.{Refused}
 use Rattle.open_how.specs.Fields.{fieldsOf}
 use Rattle.call.specs.Calls.{walksUnless, callRead}
@@ -35,6 +40,7 @@ use Rattle.call.proofs.CallLaws.{accepted-call}
 use Rattle.open_how.specs.declared.How.{How}
 use Rattle.call.specs.declared.CallRead.the-variants.{Walks, Refused as CallRefused}
 use Rattle.request.specs.Requests.{requestFor, restrictionsFor, numbersBy}
+use Rattle.resolver.specs.Answering.{Answered}
 
 walks-none : (o : Option Refusal) (f g : How) → walksUnless o f ≡ Walks g → (o ≡ none) × (f ≡ g)
 walks-none none f g e = (refl, cc)
@@ -44,50 +50,73 @@ refused-some : (o : Option Refusal) (f : How) (r : Refusal) → walksUnless o f 
 refused-some none f r e = let z : _≡_ {A = ℕ} 0 1 = cc in absurd (omega arith)
 refused-some (some q) f r e = cc
 
-module _ (s : List ℕ) (h : Handle) (path how : List ℕ) where
-  -- what the call's check read, over an accepted table
-  module _ (accepted : tableCheck s ≡ Accepted) (read : CallRead) (is : read ≡ callRead s (callOf h path how)) where
-    pub read-walks : (f : How) → read ≡ Walks f → (refusedBefore s (callOf h path how) ≡ none) × (fieldsOf how ≡ f)
-    read-walks f told = walks-none (refusedBefore s (callOf h path how)) (fieldsOf how) f (sym (accepted-call s (callOf h path how) accepted) ∙ sym is ∙ told)
+-- a table that was accepted, with its counts
+pub accepted-told : (s : List ℕ) {v : Verdict} → v ≡ tableCheck s → v ≡ Accepted → tableCheck s ≡ Accepted
+accepted-told s is told = sym is ∙ told
 
-    pub read-refused : (r : Refusal) → read ≡ CallRefused r → refusedBefore s (callOf h path how) ≡ some r
-    read-refused r told = refused-some (refusedBefore s (callOf h path how)) (fieldsOf how) r (sym (accepted-call s (callOf h path how) accepted) ∙ sym is ∙ told)
+module _ (s : List ℕ) (accepted : tableCheck s ≡ Accepted) where
+  pub header : 20 ≤ length s
+  header = omega (arith, accepted-sized s accepted .whole)
+
+  module _ {c : Counts} (counts-are : c ≡ countsOf s) where
+    pub counts : Counted s c
+    counts = counted (accepted-sized s accepted) counts-are
+
+    reading : Reading s c
+    reading = record { counted = counts; accepted = accepted }
+
+module _ (s : List ℕ) (h : Handle) (path how : List ℕ) where
+  abbrev call : Call
+  call = callOf h path how
+
+  abbrev Answers : Answer → Type 0
+  Answers r = Answered s call s call r
+
+  answers : {r : Answer} → r ≡ resolve s call → Answers r
+  answers e = (e, subst (λ a. Bounded (progressOf a)) (sym e) (every-walk-bounded s call), (refl, refl))
+
+  -- a refused table refuses every call
+  pub broken-call : {v : Verdict} {rule n : ℕ} {r : Answer} → v ≡ tableCheck s → v ≡ Broken rule n → r ≡ refused Euclean notWalked → Answers r
+  unfolding resolve refusedBefore
+  broken-call is told e = answers (e ∙ rw (sym is ∙ told))
 
   -- the walk of what the call asks is the definition's answer
-  asked : refusedBefore s (callOf h path how) ≡ none
+  asked : refusedBefore s call ≡ none
       → let k = numbersBy s h (fieldsOf how) (endsInSlash path) in
-      answer (restrictionsFor k) (walkPath (requestFor s k) (has O-DIRECTORY (flagsOf how) || endsInSlash path) path) ≡ resolve s (callOf h path how)
+      answer (restrictionsFor k) (walkPath (requestFor s k) (has O-DIRECTORY (flagsOf how) || endsInSlash path) path) ≡ resolve s call
   unfolding resolve traceOf requestOf restrictions
   asked e = rw e
 
-  pub refused-call : (r : Refusal) → refusedBefore s (callOf h path how) ≡ some r → Refused r ≡ resolve s (callOf h path how)
-  unfolding resolve
-  refused-call r e = rw e
+  -- what the call's check read, over an accepted table
+  module _ (accepted : tableCheck s ≡ Accepted) {read : CallRead} (is : read ≡ callRead s call) where
+    pub read-refused : {r : Refusal} → read ≡ CallRefused r → Answers (Refused r)
+    unfolding resolve
+    read-refused {r} told = answers (rw (refused-some (refusedBefore s call) (fieldsOf how) r (sym (accepted-call s call accepted) ∙ sym is ∙ told)))
 
-  -- the same from what the code has in hand
-  pub walked : (f : How) (slash : Bool) (k : Request) (directory : Bool) → (refusedBefore s (callOf h path how) ≡ none) × (fieldsOf how ≡ f)
-      → slash ≡ endsInSlash path → k ≡ numbersBy s h f slash → directory ≡ has O-DIRECTORY (f .flags) || slash
-      → answer (restrictionsFor k) (walkPath (requestFor s k) directory path) ≡ resolve s (callOf h path how)
-  walked f slash k directory (none-before, fields) slash-is k-is directory-is =
-      ap₂ (λ x d. answer (restrictionsFor x) (walkPath (requestFor s x) d path))
-      (k-is ∙ ap₂ (numbersBy s h) (sym fields) slash-is)
-      (directory-is ∙ ap₂ (λ (g : How) b. has O-DIRECTORY (g .flags) || b) (sym fields) slash-is)
-      ∙ asked none-before
+    module _ {f : How} (told : read ≡ Walks f) where
+      walks : (refusedBefore s call ≡ none) × (fieldsOf how ≡ f)
+      walks = walks-none (refusedBefore s call) (fieldsOf how) f (sym (accepted-call s call accepted) ∙ sym is ∙ told)
 
-  -- and what the walk rests on
-  pub walking-of : (c : Counts) (f : How) (slash : Bool) (k : Request) → Reading s c → refusedBefore s (callOf h path how) ≡ none → k ≡ numbersBy s h f slash
-      → Walking s c k × Inside (treeOf s) (k .handle) × (length path ≤ 4095)
-  walking-of c f slash k reading none-before k-is =
-      let un = unrefused s (callOf h path how) none-before in
-      let sound = accepted-sound s (reading .accepted) in
-      let handle = handle-inside (treeOf s) h (un .handle-passes) in
-      let root = either-root-inside (treeOf s) sound (placeOf h) handle (has IN-ROOT (f .resolve)) in (
-        record { reading = reading; root-inside = subst (λ x. Inside (treeOf s) (x .root)) (sym k-is) root },
-        subst (λ x. Inside (treeOf s) (x .handle)) (sym k-is) handle,
-        path-short path (un .path-passes),
-      )
+      handle-stands : Inside (treeOf s) (placeOf h)
+      handle-stands = handle-inside (treeOf s) h (unrefused s call (walks .0) .handle-passes)
 
-  -- a refused table refuses every call
-  pub broken-call : (rule r : ℕ) → tableCheck s ≡ Broken rule r → refused Euclean notWalked ≡ resolve s (callOf h path how)
-  unfolding resolve refusedBefore
-  broken-call rule r e = rw e
+      pub path-few : length path ≤ 4095
+      path-few = path-short path (unrefused s call (walks .0) .path-passes)
+
+      module _ {slash : Bool} (slash-is : slash ≡ endsInSlash path) {k : Request} (k-is : k ≡ numbersBy s h f slash) where
+        pub walking : {c : Counts} → c ≡ countsOf s → Walking s c k
+        walking counts-are =
+            let root = either-root-inside (treeOf s) (accepted-sound s accepted) (placeOf h) handle-stands (has IN-ROOT (f .resolve)) in
+            record { reading = reading s accepted counts-are; root-inside = subst (λ x. Inside (treeOf s) (x .root)) (sym k-is) root }
+
+        pub handle-found : Inside (treeOf s) (k .handle)
+        handle-found = subst (λ x. Inside (treeOf s) (x .handle)) (sym k-is) handle-stands
+
+        pub read-walked : {directory : Bool} {r : Answer} → directory ≡ has O-DIRECTORY (f .flags) || slash
+            → r ≡ answer (restrictionsFor k) (walkPath (requestFor s k) directory path) → Answers r
+        read-walked directory-is e = answers (
+            e
+            ∙ ap₂ (λ x d. answer (restrictionsFor x) (walkPath (requestFor s x) d path))
+            (k-is ∙ ap₂ (numbersBy s h) (sym (walks .1)) slash-is)
+            (directory-is ∙ ap₂ (λ (g : How) b. has O-DIRECTORY (g .flags) || b) (sym (walks .1)) slash-is)
+            ∙ asked (walks .0))

@@ -1,4 +1,4 @@
-mod CutLaws
+mod CheckLaws
 mod PartLaws
 mod RuleLaws
 mod WholeLaws

@@ -1,12 +1,13 @@
--- Numbers stored one after the other at the front of an array. Assumes nothing.
+-- Numbers stored one after the other at the front of an array, and what was read as numbers. Assumes nothing.
 use Prim.Native.Nat.{ℕ, suc, _≤_, _<_}
 use mathlib.Core.List.{List, [], _∷_, _++_}
 use mathlib.Core.Path.{_≡_, refl, ap, _∙_, sym}
 use native.Mathlib.Omega.{arith}
 use lib.ListN.{length, drop, set}
-use Rattle.model.specs.Answers.{answerNumbers, verdictNumbers}
+use Rattle.model.specs.Answers.{errnoNumber, answerNumbers, verdictNumbers}
 use Rattle.model.specs.declared.Answer.{Answer}
 use Rattle.model.specs.declared.Answer.the-variants.{Found, Refused}
+use Rattle.model.specs.declared.Refusal.{Refusal}
 use Rattle.model.specs.declared.Verdict.{Verdict}
 use Rattle.model.specs.declared.Verdict.the-variants.{Accepted, Broken}
 use Rattle.ventolaire.specs.Written.{Writes}
@@ -53,8 +54,23 @@ answer-writes {a} {r} {before} {after} is h e =
 pub answer-short : (a : Answer) (before : List ℕ) → length before < 6 → Writes (answerNumbers a) before before 0
 answer-short a before = writes-none (answerNumbers a) before 6 (answer-six a)
 
-pub verdict-writes : (v : Verdict) (before after : List ℕ) → 2 ≤ length before → after ≡ verdictNumbers v ++ drop 2 before → Writes (verdictNumbers v) before after 2
-verdict-writes v before after = writes-all (verdictNumbers v) 2 (verdict-two v) before after
+pub verdict-writes : {v r : Verdict} {before after : List ℕ} → r ≡ v → 2 ≤ length before → after ≡ verdictNumbers r ++ drop 2 before
+    → Writes (verdictNumbers v) before after 2
+verdict-writes {v} {r} {before} {after} is h e =
+    writes-all (verdictNumbers v) 2 (verdict-two v) before after h (e ∙ ap (λ y. verdictNumbers y ++ drop 2 before) is)
 
 pub verdict-short : (v : Verdict) (before : List ℕ) → length before < 2 → Writes (verdictNumbers v) before before 0
 verdict-short v before = writes-none (verdictNumbers v) before 2 (verdict-two v)
+
+-- the numbers of what was told
+module _ (out : List ℕ) {after : List ℕ} where
+  pub verdict-told : {v told : Verdict} → v ≡ told → after ≡ verdictNumbers told ++ drop 2 out → after ≡ verdictNumbers v ++ drop 2 out
+  verdict-told is e = e ∙ ap (λ x. verdictNumbers x ++ drop 2 out) (sym is)
+
+  pub answer-told : {a told : Answer} → a ≡ told → after ≡ answerNumbers told ++ drop 6 out → after ≡ answerNumbers a ++ drop 6 out
+  answer-told is e = e ∙ ap (λ x. answerNumbers x ++ drop 6 out) (sym is)
+
+  pub refusal-told : {a : Answer} {r : Refusal} {n : ℕ} → a ≡ Refused r → n ≡ errnoNumber (r .errno)
+      → after ≡ n ∷ r .detail ∷ 0 ∷ 0 ∷ r .progress .components ∷ r .progress .links ∷ drop 6 out → after ≡ answerNumbers a ++ drop 6 out
+  refusal-told {r = r} is number e =
+      answer-told is (e ∙ ap (λ x. x ∷ r .detail ∷ 0 ∷ 0 ∷ r .progress .components ∷ r .progress .links ∷ drop 6 out) number)

@@ -1,13 +1,13 @@
 -- The open texts as the code keeps them: what is pending, and what a step of the code makes of it. Assumes nothing.
 use Prim.Native.Nat.{ℕ, zero, suc, _+_, _-_, _*_, _/_, _%_, _≤_, _<_}
-use mathlib.Core.Bool.{Bool, true, false, _&&_}
+use mathlib.Core.Bool.{Bool, true, false, not, _&&_}
 use mathlib.Core.List.{List, [], _∷_, _++_}
 use mathlib.Core.Logic.{⊎-elim}
 use mathlib.Core.Path.{_≡_, refl, sym, ap, ap₂, _∙_, subst}
 use native.Mathlib.Nat.{le-refl, eq-or-lt-of-le}
 use native.Mathlib.Numerals.{add-one}
 use native.Mathlib.Omega.{arith}
-use borrow.Author.Tests.{eq-eqb, ne-eqb, eqb-true, eqb-false}
+use borrow.Author.Tests.{eq-eqb, ne-eqb, eqb-true, eqb-false, not-true, not-false}
 use lib.Dec.{eqb}
 use lib.ListN.{length, getD, set, length-set}
 use lib.Seq.{getD-set-same, getD-set-other}
@@ -59,7 +59,7 @@ module _ {s path stack : List ℕ} {w : Walk} (r : Resting s path stack w) where
       ∙ ap₂ _&&_ (left-empty (textOf (treeOf s) path (w .text)) (w .at) (r .placed .stands) (w .text)) (suspended-empty (treeOf s) path stack (w .depth) (r .each))
 
   -- at the text's end only the suspended texts are left
-  pub pending-ended : w .at ≡ length (textOf (treeOf s) path (w .text)) → pending (treeOf s) path stack w ≡ suspended (treeOf s) path stack (w .depth)
+  pending-ended : w .at ≡ length (textOf (treeOf s) path (w .text)) → pending (treeOf s) path stack w ≡ suspended (treeOf s) path stack (w .depth)
   pending-ended e =
       ap (λ xs. xs ++ suspended (treeOf s) path stack (w .depth)) (ap (leftIn (treeOf s) path (w .text)) e ∙ left-end (w .text) (textOf (treeOf s) path (w .text)))
 
@@ -71,33 +71,54 @@ goes-on {s} {path} {stack} {w} h links xs few same =
     pending-empty (h .resting) ∙ ap (λ b. b && eqb (w .depth) 0) (ne-eqb (w .at) (length (textOf (treeOf s) path (w .text))) (λ q. omega (arith, h .some-left))) in
     record { stands = sym (on-with-more _ _ _ some) ∙ ap₂ (λ n ys. onWith n ys (w .state)) few same; held = h }
 
-module _ {s path stack : List ℕ} {w : Walk} (r : Resting s path stack w) where
-  pub advanced-here : w .at < length (textOf (treeOf s) path (w .text)) → Advanced s path stack w (More w)
-  advanced-here h = goes-on (record { resting = r; some-left = h }) _ _ refl refl
+-- whether the text has ended, by what was read
+module _ {s path stack : List ℕ} {w : Walk} (r : Resting s path stack w) {x : List ℕ} (text-is : x ≡ textOf (treeOf s) path (w .text)) where
+  pub at-within : w .at ≤ length x
+  at-within = omega (arith, ap length text-is, r .placed .stands .within)
 
-  pub advanced-end : w .at ≡ length (textOf (treeOf s) path (w .text)) → w .depth ≡ 0 → Advanced s path stack w (Done (w .state))
-  advanced-end e z =
-      let none : isEmpty (pending (treeOf s) path stack w) ≡ true = pending-empty r ∙ ap₂ _&&_ (eq-eqb _ _ e) (eq-eqb _ _ z) in
-      record { stands = sym (on-with-done (linksLeft (w .state)) (pending (treeOf s) path stack w) (w .state) none); held = tt }
+  module _ {end : Bool} (end-is : end ≡ eqb (w .at) (length x)) where
+    ended : not end ≡ false → w .at ≡ length (textOf (treeOf s) path (w .text))
+    ended h = eqb-true (w .at) (length x) (sym end-is ∙ not-false _ h) ∙ ap length text-is
 
-  -- back in the text suspended last
-  pub advanced-back : (d : ℕ) → w .at ≡ length (textOf (treeOf s) path (w .text)) → w .depth ≡ suc d
-      → Advanced s path stack w (More (record { state = w .state; text = getD stack d 0 / 4096; at = getD stack d 0 % 4096; depth = d }))
-  unfolding suspended
-  advanced-back d e z =
-      let u = r .each d (omega arith) in
-      goes-on
-      (record {
-        resting = record {
-          placed = u .placed;
-          few-links = r .few-links;
-          few-texts = omega (arith, r .few-texts);
-          stack-length = r .stack-length;
-          each = λ i h. r .each i (omega arith);
-        };
-        some-left = u .some-left;
-      })
-      (linksLeft (w .state)) (pending (treeOf s) path stack w) refl (sym (pending-ended r e ∙ ap (suspended (treeOf s) path stack) z))
+    unended : not end ≡ true → w .at < length (textOf (treeOf s) path (w .text))
+    unended h =
+        ⊎-elim
+        (λ (q : w .at ≡ length (textOf (treeOf s) path (w .text))). absurd (eqb-false (w .at) (length x) (sym end-is ∙ not-true _ h) (q ∙ sym (ap length text-is))))
+        (λ (l : w .at < length (textOf (treeOf s) path (w .text))). l)
+        (eq-or-lt-of-le (r .placed .stands .within))
+
+    pub advanced-here : not end ≡ true → Advanced s path stack w (More w)
+    advanced-here h = goes-on (record { resting = r; some-left = unended h }) _ _ refl refl
+
+    module _ (done : not end ≡ false) where
+      pub advanced-end : w .depth ≡ 0 → Advanced s path stack w (Done (w .state))
+      advanced-end z =
+          let none : isEmpty (pending (treeOf s) path stack w) ≡ true = pending-empty r ∙ ap₂ _&&_ (eq-eqb _ _ (ended done)) (eq-eqb _ _ z) in
+          record { stands = sym (on-with-done (linksLeft (w .state)) (pending (treeOf s) path stack w) (w .state) none); held = tt }
+
+      -- back in the text suspended last
+      back : (d : ℕ) → w .depth ≡ suc d
+          → Advanced s path stack w (More (record { state = w .state; text = getD stack d 0 / 4096; at = getD stack d 0 % 4096; depth = d }))
+      unfolding suspended
+      back d z =
+          let u = r .each d (omega arith) in
+          goes-on
+          (record {
+            resting = record {
+              placed = u .placed;
+              few-links = r .few-links;
+              few-texts = omega (arith, r .few-texts);
+              stack-length = r .stack-length;
+              each = λ i h. r .each i (omega arith);
+            };
+            some-left = u .some-left;
+          })
+          (linksLeft (w .state)) (pending (treeOf s) path stack w) refl (sym (pending-ended r (ended done) ∙ ap (suspended (treeOf s) path stack) z))
+
+      pub advanced-back : (w .depth ≡ 0 → ⊥)
+          → Advanced s path stack w
+          (More (record { state = w .state; text = getD stack (w .depth - 1) 0 / 4096; at = getD stack (w .depth - 1) 0 % 4096; depth = w .depth - 1 }))
+      advanced-back n = back (w .depth - 1) (omega arith)
 
 -- the present text is suspended, and another one is read
 module _ {s path stack : List ℕ} {w : Walk} (r : Resting s path stack w) (room : w .depth < 40) (state : State) (n start : ℕ) where
@@ -119,43 +140,35 @@ module _ {s path stack : List ℕ} {w : Walk} (r : Resting s path stack w) (room
     some-left = rw (packed-text, packed-at) h;
   }
 
-  pub entered-pushed : w .at < length (textOf (treeOf s) path (w .text))
-      → Entered s path stack w state n start (set stack (w .depth) (w .text * 4096 + w .at)) (record { state = state; text = n; at = start; depth = w .depth + 1 })
-  unfolding suspended
-  entered-pushed h = record {
-    state-is = refl;
-    text-is = refl;
-    at-is = refl;
-    depth-few = le-refl (w .depth + 1);
-    same-length = length-set stack (w .depth) (w .text * 4096 + w .at);
-    behind = rw (add-one (w .depth)) (ap₂ _++_ top (suspended-ext (treeOf s) path stack (set stack (w .depth) (w .text * 4096 + w .at)) (w .depth) pushed-same));
-    each = λ i l.
-        ⊎-elim
-        (λ (e : i ≡ w .depth). subst (Suspended (treeOf s) path) (sym (ap (λ (j : ℕ). getD (set stack (w .depth) (w .text * 4096 + w .at)) j 0) e ∙ pushed-top)) (here-suspended h))
-        (λ (u : i < w .depth). subst (Suspended (treeOf s) path) (sym (pushed-same i u)) (r .each i u))
-        (eq-or-lt-of-le {n = i} {m = w .depth} (omega arith));
-  }
-    where
-      top : leftIn (treeOf s) path (getD (set stack (w .depth) (w .text * 4096 + w .at)) (w .depth) 0 / 4096)
-          (getD (set stack (w .depth) (w .text * 4096 + w .at)) (w .depth) 0 % 4096) ≡ leftIn (treeOf s) path (w .text) (w .at)
-      top = rw (pushed-top, packed-text, packed-at)
+  module _ {x : List ℕ} (text-is : x ≡ textOf (treeOf s) path (w .text)) {end : Bool} (end-is : end ≡ eqb (w .at) (length x)) where
+    pub entered-pushed : not end ≡ true
+        → Entered s path stack w state n start (set stack (w .depth) (w .text * 4096 + w .at)) (record { state = state; text = n; at = start; depth = w .depth + 1 })
+    unfolding suspended
+    entered-pushed h = record {
+      state-is = refl;
+      text-is = refl;
+      at-is = refl;
+      depth-few = le-refl (w .depth + 1);
+      same-length = length-set stack (w .depth) (w .text * 4096 + w .at);
+      behind = rw (add-one (w .depth)) (ap₂ _++_ top (suspended-ext (treeOf s) path stack (set stack (w .depth) (w .text * 4096 + w .at)) (w .depth) pushed-same));
+      each = λ i l.
+          ⊎-elim
+          (λ (e : i ≡ w .depth). subst (Suspended (treeOf s) path) (sym (ap (λ (j : ℕ). getD (set stack (w .depth) (w .text * 4096 + w .at)) j 0) e ∙ pushed-top)) (here-suspended (unended r text-is end-is h)))
+          (λ (u : i < w .depth). subst (Suspended (treeOf s) path) (sym (pushed-same i u)) (r .each i u))
+          (eq-or-lt-of-le {n = i} {m = w .depth} (omega arith));
+    }
+      where
+        top : leftIn (treeOf s) path (getD (set stack (w .depth) (w .text * 4096 + w .at)) (w .depth) 0 / 4096)
+            (getD (set stack (w .depth) (w .text * 4096 + w .at)) (w .depth) 0 % 4096) ≡ leftIn (treeOf s) path (w .text) (w .at)
+        top = rw (pushed-top, packed-text, packed-at)
 
-  pub entered-ended : w .at ≡ length (textOf (treeOf s) path (w .text))
-      → Entered s path stack w state n start stack (record { state = state; text = n; at = start; depth = w .depth })
-  entered-ended e = record {
-    state-is = refl;
-    text-is = refl;
-    at-is = refl;
-    depth-few = omega arith;
-    same-length = refl;
-    behind = sym (pending-ended r e);
-    each = r .each;
-  }
-
--- what `at_end` tells of a text
-pub ended : (x : List ℕ) (at : ℕ) {b : Bool} {y : List ℕ} → b ≡ eqb at (length x) → x ≡ y → b ≡ true → at ≡ length y
-ended x at e t h = eqb-true at (length x) (sym e ∙ h) ∙ ap length t
-
-pub unended : (x : List ℕ) (at : ℕ) {b : Bool} {y : List ℕ} → b ≡ eqb at (length x) → x ≡ y → b ≡ false → at ≤ length y → at < length y
-unended x at {b} {y} e t h within =
-    ⊎-elim (λ (q : at ≡ length y). absurd (eqb-false at (length x) (sym e ∙ h) (q ∙ sym (ap length t)))) (λ (l : at < length y). l) (eq-or-lt-of-le within)
+    pub entered-ended : not end ≡ false → Entered s path stack w state n start stack (record { state = state; text = n; at = start; depth = w .depth })
+    entered-ended h = record {
+      state-is = refl;
+      text-is = refl;
+      at-is = refl;
+      depth-few = omega arith;
+      same-length = refl;
+      behind = sym (pending-ended r (ended r text-is end-is h));
+      each = r .each;
+    }

@@ -4,10 +4,12 @@ use Prim.Native.Nat.{ℕ, _+_, _-_, _<_}
 use mathlib.Core.List.{List}
 use mathlib.Core.Path.{_≡_, sym, ap, _∙_, subst}
 use native.Mathlib.Omega.{arith}
+use lib.ListN.{length}
 use Rattle.model.specs.Tree.{treeOf}
 use Rattle.model.specs.Answers.{refused}
 use Rattle.model.specs.Walk.{finish}
 use Rattle.model.specs.Step.{step, answerAfter}
+use Rattle.model.specs.declared.Answer.{Answer}
 use Rattle.model.specs.declared.Errno.{Errno}
 use Rattle.model.specs.declared.State.{State}
 use Rattle.laws.specs.Inside.{Inside}
@@ -43,24 +45,28 @@ module _ {s path stack after : List ℕ} {k : Request} {c : Counts} {w : Walk} {
   same : answerAfter (restrictionsFor k) (requestFor s k) (standsFor s path after r′) ≡ rest s k path stack w
   same = ap (answerAfter (restrictionsFor k) (requestFor s k)) leads ∙ sym (repeats (restrictionsFor k) (requestFor s k) (configuration s path stack w))
 
-module _ {s path stack after : List ℕ} {k : Request} {c : Counts} {w v : Walk} {r : Next} (walking : Walking s c k) (here : Ready s path stack w)
-    (stepped : Stepped s k path stack w after r) (is : r ≡ More v) where
-  pub further-ready : Ready s path after v
-  further-ready = record { standing = held walking here stepped is; ordered = ordered walking here stepped is }
+-- the turns of the run, from an answer a that the definitions give from here
+module _ {s path stack after : List ℕ} {k : Request} {c : Counts} {w : Walk} {r : Next} {a : Answer} (walking : Walking s c k) (here : Ready s path stack w)
+    (so-far : rest s k path stack w ≡ a) (stepped : Stepped s k path stack w after r) where
+  module _ {v : Walk} (is : r ≡ More v) where
+    pub further-ready : Ready s path after v
+    further-ready = record { standing = held walking here stepped is; ordered = ordered walking here stepped is }
 
-  pub further-same : rest s k path after v ≡ rest s k path stack w
-  further-same = same walking here stepped is
+    pub further-long : {n : ℕ} → length stack ≡ n → length after ≡ n
+    further-long e = further-ready .standing .resting .stack-length ∙ sym (here .standing .resting .stack-length) ∙ e
 
-  pub goes-further : 83968 - v .state .progress .components < 83968 - w .state .progress .components
-  goes-further = omega (arith, took walking here stepped is, further-ready .ordered .room .texts-left)
+    pub further-same : rest s k path after v ≡ a
+    further-same = same walking here stepped is ∙ so-far
 
-module _ {s path stack after : List ℕ} {k : Request} {c : Counts} {w : Walk} {end : State} {r : Next} (walking : Walking s c k) (here : Ready s path stack w)
-    (stepped : Stepped s k path stack w after r) where
-  pub ended-inside : r ≡ Done end → Inside (treeOf s) (end .place)
-  ended-inside is = ordered walking here stepped is .0
+    pub goes-further : 83968 - v .state .progress .components < 83968 - w .state .progress .components
+    goes-further = omega (arith, took walking here stepped is, further-ready .ordered .room .texts-left)
 
-  pub ended-same : r ≡ Done end → finish (requestFor s k) end ≡ rest s k path stack w
-  ended-same is = same walking here stepped is
+  module _ {end : State} where
+    pub ended-inside : r ≡ Done end → Inside (treeOf s) (end .place)
+    ended-inside is = ordered walking here stepped is .0
 
-  pub failed-same : {e : Errno} → r ≡ Failed e end → refused e (end .progress) ≡ rest s k path stack w
-  failed-same is = same walking here stepped is
+    pub ended-same : {x : Answer} → r ≡ Done end → x ≡ finish (requestFor s k) end → x ≡ a
+    ended-same is e = e ∙ same walking here stepped is ∙ so-far
+
+    pub failed-same : {x : Answer} {e : Errno} → r ≡ Failed e end → x ≡ refused e (end .progress) → x ≡ a
+    failed-same is e = e ∙ same walking here stepped is ∙ so-far

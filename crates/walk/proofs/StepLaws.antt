@@ -1,28 +1,29 @@
 -- One component: from a walk that stands at one to the walk behind it. Assumes nothing.
-use Prim.Native.Nat.{ℕ, _-_, _<_}
-use mathlib.Core.Bool.{Bool, true, false, _&&_}
+use Prim.Native.Nat.{ℕ, _-_, _≤_, _<_}
+use mathlib.Core.Bool.{Bool, true, false, not, _&&_}
 use mathlib.Core.List.{List, _∷_, _++_}
 use mathlib.Core.Option.{Option, some, none}
 use mathlib.Core.Path.{_≡_, sym, ap, ap₂, _∙_, subst, subst₂}
 use native.Mathlib.Omega.{arith}
-use borrow.Author.Tests.{ltb-true}
+use borrow.Author.Tests.{ltb-true, eqb-true, eqb-false, not-true, not-false}
 use lib.Dec.{eqb, ltb}
 use lib.ListN.{length}
 use Rattle.model.specs.Tree.{Tree, treeOf, isDirectory}
 use Rattle.model.specs.Trace.{Restrictions, forbidAny}
 use Rattle.model.specs.Walk.{Landing, outside, target, reading, Step, fail, go, follow, taken, isEmpty, oneComponent}
-use Rattle.model.specs.Step.{failed, step, stepOf}
+use Rattle.model.specs.Step.{step, stepOf}
 use Rattle.model.specs.declared.Errno.{Errno}
 use Rattle.model.specs.declared.Errno.the-variants.{Enotdir}
 use Rattle.model.specs.declared.State.{State}
 use Rattle.laws.proofs.Inside.{LandingInside, StepInside, one-component-inside}
 use Rattle.laws.proofs.Acceptance.{accepted-sound}
+use Rattle.laws.proofs.EntryLaws.{is-directory, not-directory}
 use Rattle.laws.proofs.Cases.{cond-cases}
 use Rattle.text.specs.Positions.{nextStart, componentAt, componentBytes}
 use Rattle.reader.specs.Spans.{spanAt}
 use Rattle.text.specs.Texts.{textOf, between}
 use Rattle.reader.specs.declared.Span.{Span}
-use Rattle.text.proofs.Components.{left-here, next-stands}
+use Rattle.text.proofs.Components.{left-here, end-within, next-stands}
 use Rattle.request.specs.Requests.{requestFor, restrictionsFor}
 use Rattle.component.specs.Outcomes.{stopOr, landingOutcome, outcome}
 use Rattle.request.specs.Walking.{Walking}
@@ -30,9 +31,10 @@ use Rattle.request.specs.declared.Request.{Request}
 use Rattle.component.specs.declared.Outcome.{Outcome}
 use Rattle.component.specs.declared.Outcome.the-variants.{Go}
 use Rattle.parts.specs.declared.records.Counts.{Counts}
-use Rattle.walk.specs.OpenTexts.{suspended, pending, linksLeft, configuration, Resting, Ready, Leads, OutcomeInside, proceed, Behind, Stepped}
+use Rattle.walk.specs.OpenTexts.{suspended, pending, linksLeft, configuration, Resting, Ready, OutcomeInside, proceed, Behind, Proceeded, Stepped}
 use Rattle.walk.specs.declared.Walk.{Walk}
 use Rattle.walk.specs.declared.Next.{Next}
+use Rattle.walk.specs.declared.Next.the-variants.{Failed}
 use Rattle.walk.proofs.WalkLaws.{step-off, step-on}
 use Rattle.walk.proofs.PendingLaws.{pending-empty, leads-to}
 
@@ -97,12 +99,20 @@ module _ {s path stack : List ℕ} {k : Request} {c : Counts} {w : Walk} (walkin
   few-taken = omega (arith, here .ordered .room .texts-left, ap length one-pending)
 
   -- the node that is stood on is no directory, or is one
-  pub off-directory : isDirectory (treeOf s) (w .state .place .node) ≡ false
-      → failed Enotdir (w .state) ≡ step (restrictionsFor k) (requestFor s k) (configuration s path stack w)
-  unfolding step
-  off-directory d = sym (
-      ap (λ cs. stepOf (restrictionsFor k) (requestFor s k) (linksLeft (w .state)) cs (w .state)) one-pending
-      ∙ step-off (restrictionsFor k) (requestFor s k) (linksLeft (w .state)) _ _ (w .state) d)
+  module _ {kind : ℕ} (kind-is : kind ≡ treeOf s .kind (w .state .place .node)) {names : Bool} (names-is : names ≡ eqb kind 1) where
+    pub off-directory : not names ≡ true → Stepped s k path stack w stack (Failed Enotdir (w .state))
+    unfolding step
+    off-directory f = record {
+      stands = sym (
+          ap (λ cs. stepOf (restrictionsFor k) (requestFor s k) (linksLeft (w .state)) cs (w .state)) one-pending
+          ∙ step-off (restrictionsFor k) (requestFor s k) (linksLeft (w .state)) _ _ (w .state)
+          (not-directory (treeOf s) (w .state .place .node) (λ e. eqb-false kind 1 (sym names-is ∙ not-true _ f) (kind-is ∙ e))));
+      held = tt;
+    }
+
+    pub stands-on : not names ≡ false → isDirectory (treeOf s) (w .state .place .node) ≡ true
+    stands-on f =
+        is-directory (treeOf s) (w .state .place .node) (here .ordered .inside .node-below) (sym kind-is ∙ eqb-true kind 1 (sym names-is ∙ not-false _ f))
 
   on-directory : isDirectory (treeOf s) (w .state .place .node) ≡ true
       → proceed s path stack (behind s path w) (outcomeOf s k w (lastAt s path stack w) (nameAt s path w))
@@ -123,45 +133,58 @@ module _ {s path stack : List ℕ} {k : Request} {c : Counts} {w : Walk} (walkin
       outcome-inside (treeOf s) (restrictionsFor k) (w .state .progress .links) (oneComponent (requestFor s k) last (w .state .place) bytes)
       (one-component-inside (requestFor s k) (accepted-sound s (walking .reading .accepted)) (walking .root-inside) last (w .state .place) (here .ordered .inside) d bytes)
 
-  -- what the step's calls gave: the text, the component in it, whether it is the last, where it leads, and the state with it taken
-  module _ (d : isDirectory (treeOf s) (w .state .place .node) ≡ true)
-      {x : List ℕ} (text-is : x ≡ textAt s path w)
-      {span : Span} (span-is : span ≡ spanAt x (w .at))
-      {last : Bool} (last-is : last ≡ eqb (span .next) (length x) && eqb (w .depth) 0)
-      {name : List ℕ} (name-is : name ≡ between (textAt s path w) (w .at) (span .end))
-      {o : Outcome} (o-is : o ≡ outcomeOf s k w last name)
-      {state : State} (state-is : state ≡ taken (w .state))
-    where
-      read : span ≡ spanAt (textAt s path w) (w .at)
-      read = span-is ∙ ap (λ y. spanAt y (w .at)) text-is
+  -- what the step's calls gave: the text and the component in it
+  module _ {x : List ℕ} (text-is : x ≡ textAt s path w) {span : Span} (span-is : span ≡ spanAt x (w .at)) where
+    read : span ≡ spanAt (textAt s path w) (w .at)
+    read = span-is ∙ ap (λ y. spanAt y (w .at)) text-is
 
-      -- the walk behind the component, as the code has it
-      abbrev went : Walk
-      went = record { state = state; text = w .text; at = span .next; depth = w .depth }
+    pub next-within : span .next ≤ length x
+    next-within = omega (arith, ap (λ (sp : Span). sp .next) read, ap length text-is, behind-resting .placed .stands .within)
 
-      went-is : went ≡ behind s path w
-      went-is = ap₂ (λ (st : State) (n : ℕ). record { state = st; text = w .text; at = n; depth = w .depth }) state-is (ap (λ (sp : Span). sp .next) read)
+    pub name-begins : w .at ≤ span .end
+    name-begins = omega (arith, ap (λ (sp : Span). sp .end) read)
 
-      ends : last ≡ lastAt s path stack w
-      ends =
-          last-is ∙ ap₂ (λ (m n : ℕ). eqb m n && eqb (w .depth) 0) (ap (λ (sp : Span). sp .next) read) (ap length text-is)
-          ∙ sym (pending-empty behind-resting)
+    pub name-ends : span .end ≤ length (textAt s path w)
+    name-ends = omega (arith, ap (λ (sp : Span). sp .end) read, end-within (textAt s path w) (w .at) (omega (arith, here .standing .some-left)))
 
-      named : name ≡ nameAt s path w
-      named = name-is ∙ ap (between (textAt s path w) (w .at)) (ap (λ (sp : Span). sp .end) read)
+    -- whether it is the last, where it leads, and the state with it taken
+    module _ {kind : ℕ} (kind-is : kind ≡ treeOf s .kind (w .state .place .node)) {names : Bool} (names-is : names ≡ eqb kind 1) (on : not names ≡ false)
+        {end last : Bool} (end-is : end ≡ eqb (span .next) (length x)) (last-is : last ≡ end && eqb (w .depth) 0)
+        {name : List ℕ} (name-is : name ≡ between (textAt s path w) (w .at) (span .end))
+        {o : Outcome} (o-is : o ≡ outcomeOf s k w last name)
+        {state : State} (state-is : state ≡ taken (w .state))
+      where
+        -- the walk behind the component, as the code has it
+        abbrev went : Walk
+        went = record { state = state; text = w .text; at = span .next; depth = w .depth }
 
-      leads-on : o ≡ outcomeOf s k w (lastAt s path stack w) (nameAt s path w)
-      leads-on = o-is ∙ ap₂ (outcomeOf s k w) ends named
+        went-is : went ≡ behind s path w
+        went-is = ap₂ (λ (st : State) (n : ℕ). record { state = st; text = w .text; at = n; depth = w .depth }) state-is (ap (λ (sp : Span). sp .next) read)
 
-      -- so the walk can go on from behind it
-      pub proceeds : Behind s c k path stack went last o
-      proceeds = record {
-        walking = walking;
-        resting = subst (Resting s path stack) (sym went-is) behind-resting;
-        good = subst₂ (λ v y. OutcomeInside (treeOf s) (v .state .progress .links) y) (sym went-is) (sym leads-on) (leads-inside d (lastAt s path stack w) (nameAt s path w));
-        last-is = ends ∙ ap (λ v. isEmpty (pending (treeOf s) path stack v)) (sym went-is);
-      }
+        ends : last ≡ lastAt s path stack w
+        ends =
+            last-is
+            ∙ ap (λ (b : Bool). b && eqb (w .depth) 0) (end-is ∙ ap₂ eqb (ap (λ (sp : Span). sp .next) read) (ap length text-is))
+            ∙ sym (pending-empty behind-resting)
 
-      -- and where it goes from there is where the definitions go
-      pub stepped : {after : List ℕ} {r : Next} → Leads s path after (proceed s path stack went o) r → Stepped s k path stack w after r
-      stepped l = leads-to l (ap₂ (proceed s path stack) went-is leads-on ∙ on-directory d)
+        named : name ≡ nameAt s path w
+        named = name-is ∙ ap (between (textAt s path w) (w .at)) (ap (λ (sp : Span). sp .end) read)
+
+        leads-on : o ≡ outcomeOf s k w (lastAt s path stack w) (nameAt s path w)
+        leads-on = o-is ∙ ap₂ (outcomeOf s k w) ends named
+
+        on-one : isDirectory (treeOf s) (w .state .place .node) ≡ true
+        on-one = stands-on kind-is names-is on
+
+        -- so the walk can go on from behind it
+        pub proceeds : Behind s c k path stack went last o
+        proceeds = record {
+          walking = walking;
+          resting = subst (Resting s path stack) (sym went-is) behind-resting;
+          good = subst₂ (λ v y. OutcomeInside (treeOf s) (v .state .progress .links) y) (sym went-is) (sym leads-on) (leads-inside on-one (lastAt s path stack w) (nameAt s path w));
+          last-is = ends ∙ ap (λ v. isEmpty (pending (treeOf s) path stack v)) (sym went-is);
+        }
+
+        -- and where it goes from there is where the definitions go
+        pub stepped : {after : List ℕ} {r : Next} → Proceeded s path stack went o after r → Stepped s k path stack w after r
+        stepped l = leads-to (l .0) (ap₂ (proceed s path stack) went-is leads-on ∙ on-directory on-one)

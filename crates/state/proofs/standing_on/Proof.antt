@@ -1,10 +1,7 @@
 -- `state::standing_on` meets its contract. Assumes nothing.
-use mathlib.Core.Path.{refl}
+use borrow.Author.Needs.{needs}
 use Rattle.state.proofs.standing_on.Statement.{statement}
 use Rattle.state.proofs.standing_on.Tie as tie
 
-returns : tie.Need-returns
-returns c = refl
-
 pub standing-on-spec : {M : Type 1} → statement M
-standing-on-spec = tie.close (tie.spec returns)
+standing-on-spec = tie.close (tie.spec (λ c. search needs))

@@ -1,10 +1,7 @@
 -- `state::stop` meets its contract. Assumes nothing.
-use mathlib.Core.Path.{refl}
+use borrow.Author.Needs.{needs}
 use Rattle.state.proofs.stop.Statement.{statement}
 use Rattle.state.proofs.stop.Tie as tie
 
-returns : tie.Need-returns
-returns c = refl
-
 pub stop-spec : {M : Type 1} → statement M
-stop-spec = tie.close (tie.spec returns)
+stop-spec = tie.close (tie.spec (λ c. search needs))

@@ -8,17 +8,11 @@ use Rattle.ventolaire.proofs.OutLaws.{front}
 use Rattle.ventolaire.proofs.put2.Statement.{statement}
 use Rattle.ventolaire.proofs.put2.Tie as tie
 
-slice-write-out : tie.Need-slice-write-out
-slice-write-out c = search needs
-
-slice-write-out-2 : tie.Need-slice-write-out-2
-slice-write-out-2 c = simp length-set (omega arith)
-
-same-length : tie.Need-same-length
-same-length c = search needs
-
-returns : tie.Need-returns
-returns c = front (c .args .a ∷ c .args .b ∷ []) (now (c .args .out)) (c .pre)
-
 pub put2-spec : {M : Type 1} → statement M
-put2-spec = tie.close (tie.spec slice-write-out slice-write-out-2 same-length returns)
+put2-spec =
+    tie.close
+    (tie.spec
+    (λ c. search needs)
+    (λ c. simp length-set (omega arith))
+    (λ c. search needs)
+    (λ c. front (c .args .a ∷ c .args .b ∷ []) (now (c .args .out)) (c .pre)))
