@@ -24,6 +24,6 @@ uncovered-by t mounts p d none e = refl
 uncovered-by t mounts p d (some m) e =
     absurd (true≢false (sym (subst (λ (n : ℕ). isDirectory t n ≡ true) (point-is t p m e) (point-directory t mounts m (mount-on-below t p m e .1))) ∙ d))
 
-pub not-entered : (t : Tree) → MountsHold t → (p : Place) → isDirectory t (p .node) ≡ false → enter t p ≡ stayAt p
+pub not-entered : {t : Tree} → MountsHold t → (p : Place) → isDirectory t (p .node) ≡ false → enter t p ≡ stayAt p
 unfolding enter
-not-entered t mounts p d = ap (enterBy t p) (uncovered-by t mounts p d (mountOn t p) refl)
+not-entered {t} mounts p d = ap (enterBy t p) (uncovered-by t mounts p d (mountOn t p) refl)

@@ -174,7 +174,7 @@ symbolic-kind magic e m = e ∙ ap linkKind m
 
 pub body-held : {image : List ℕ} {c : Counts} {k : Request} (n : ℕ) → Walking image c k → n < treeOf image .nodes → treeOf image .kind n ≡ 3
     → treeOf image .first n + treeOf image .count n ≤ treeOf image .textLength
-body-held {image} n walking below e = symlink-facts (treeOf image) (accepted-sound image (walking .reading .accepted) .nodes-hold) n below e .0
+body-held {image} n walking below e = symlink-facts (accepted-sound image (walking .reading .accepted) .nodes-hold) n below e .0
 
 -- another mount under NO_XDEV
 module _ (m n bits : ℕ) where

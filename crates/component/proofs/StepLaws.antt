@@ -38,7 +38,7 @@ module _ (R : Restrictions) (links : ℕ) (a : Asked) (last : Bool) (p : Place) 
 
   stood : MountsHold (a .tree) → (a .tree .kind n ≡ 1 → ⊥) → (isLink (a .tree) n && (not last || a .followLast)) ≡ false → Stood
   unfolding stepTo forbidAny
-  stood mounts d f = rw (f, not-entered (a .tree) mounts (placeAt (p .mount) n) (not-directory (a .tree) n d))
+  stood mounts d f = rw (f, not-entered mounts (placeAt (p .mount) n) (not-directory (a .tree) n d))
 
   stood-other : MountsHold (a .tree) → (a .tree .kind n ≡ 1 → ⊥) → isLink (a .tree) n ≡ false → Stood
   stood-other mounts d f = stood mounts d (ap (λ (b : Bool). b && (not last || a .followLast)) f)

@@ -179,10 +179,10 @@ pub accepted-below : (s : List ℕ) (n : ℕ) → tableCheck s ≡ Accepted → 
 accepted-below s n e d = directory-below (treeOf s) (accepted-sound s e .nodes-hold .directories-hold) n d
 
 -- what rule 4 says of a symbolic link
-pub symlink-facts : (t : Tree) → NodesHold t → (n : ℕ) → n < t .nodes → t .kind n ≡ 3
+pub symlink-facts : {t : Tree} → NodesHold t → (n : ℕ) → n < t .nodes → t .kind n ≡ 3
     → (t .first n + t .count n ≤ t .textLength) × (1 ≤ t .count n) × (t .count n ≤ 4095) × (contains 0 (t .body n) ≡ false)
 unfolding nodeHolds symlinkHolds
-symlink-facts t nodes n h k =
+symlink-facts {t} nodes n h k =
     let holds : symlinkHolds t n ≡ true = rw k at (nodes .node-holds n h) in
     let a = both _ _ holds in
     let b = both _ _ (a .0) in
@@ -283,10 +283,10 @@ module _ (t : Tree) (sound : Sound t) where
       (ltb-true _ _ (b .0), ltb-true _ _ (b .1))
 
   pub body-small : (n : ℕ) → n < t .nodes → t .kind n ≡ 3 → length (t .body n) ≤ 4095
-  body-small n h k = le-trans (sound .body-length n) (symlink-facts t (sound .nodes-hold) n h k .2)
+  body-small n h k = le-trans (sound .body-length n) (symlink-facts (sound .nodes-hold) n h k .2)
 
 -- a name that lies inside the text has its full length
-pub name-whole : (s : List ℕ) (e : ℕ) → Sized s → treeOf s .nameOffset e + treeOf s .nameLength e ≤ treeOf s .textLength
+pub name-whole : {s : List ℕ} (e : ℕ) → Sized s → treeOf s .nameOffset e + treeOf s .nameLength e ≤ treeOf s .textLength
     → length (treeOf s .name e) ≡ treeOf s .nameLength e
 unfolding treeOf
-name-whole s e z h = part-whole (textPart (sizesOf s) s) _ _ (omega (arith, text-length s z))
+name-whole {s} e z h = part-whole (textPart (sizesOf s) s) _ _ (omega (arith, text-length s z))

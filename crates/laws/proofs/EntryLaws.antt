@@ -23,9 +23,9 @@ holds-held t n e h =
     let b = both _ _ (a .0) in
     record { directory = b .0; from = leb-true _ _ (b .1); below = ltb-true _ _ (a .1) }
 
-pub held-holds : (t : Tree) (n e : ℕ) → Held t n e → holds t n e ≡ true
+pub held-holds : {t : Tree} {n e : ℕ} → Held t n e → holds t n e ≡ true
 unfolding holds
-held-holds t n e h = rw (h .directory, le-leb (t .first n) e (h .from), lt-ltb e (t .first n + t .count n) (h .below))
+held-holds {t} {n} {e} h = rw (h .directory, le-leb (t .first n) e (h .from), lt-ltb e (t .first n + t .count n) (h .below))
 
 not-held : (t : Tree) (n e : ℕ) → (Held t n e → ⊥) → holds t n e ≡ false
 not-held t n e h = by (holds t n e) refl
@@ -41,8 +41,8 @@ module _ (t : Tree) (directories : DirectoriesHold t) where
       omega (arith, first-sum t directories d hd, first-sum t directories n hn, counts-next t directories d (directory-kind t directories d hd), counts-grow t directories (suc d) n l)
 
   -- so an entry is in one directory
-  pub owner-one : (d n e : ℕ) → Held t d e → Held t n e → d ≡ n
-  owner-one d n e hd hn =
+  pub owner-one : {d n e : ℕ} → Held t d e → Held t n e → d ≡ n
+  owner-one {d} {n} {e} hd hn =
       ⊎-elim
       (λ (l : d < n). absurd (let a = apart d n (hd .directory) (hn .directory) l in omega (arith, hd .below, hn .from)))
       (λ (g : n ≤ d). ⊎-elim (λ (q : n ≡ d). sym q) (λ (l : n < d). absurd (let a = apart n d (hn .directory) (hd .directory) l in omega (arith, hn .below, hd .from))) (eq-or-lt-of-le g))
@@ -53,13 +53,13 @@ module _ (t : Tree) (directories : DirectoriesHold t) where
   owner-test d n e h = by (eqb d n) refl
     where
       by : (b : Bool) → eqb d n ≡ b → holds t d e ≡ b
-      by true q = held-holds t d e (subst (λ (k : ℕ). Held t k e) (sym (eqb-true d n q)) h)
-      by false q = not-held t d e (λ k. eqb-false d n q (owner-one d n e k h))
+      by true q = held-holds (subst (λ (k : ℕ). Held t k e) (sym (eqb-true d n q)) h)
+      by false q = not-held t d e (λ k. eqb-false d n q (owner-one k h))
 
   -- the first entry of a directory follows none in it
-  pub first-follows : (n e : ℕ) → Held t n e → t .first n ≡ e → follows t e ≡ false
+  pub first-follows : {n e : ℕ} → Held t n e → t .first n ≡ e → follows t e ≡ false
   unfolding follows
-  first-follows n e h q = by (ltb 0 e) refl
+  first-follows {n} {e} h q = by (ltb 0 e) refl
     where
       by : (b : Bool) → ltb 0 e ≡ b → (b && isSome (find (λ d. holds t d (e - 1) && holds t d e) 0 (t .nodes))) ≡ false
       by false f = refl
@@ -76,27 +76,27 @@ module _ (t : Tree) (directories : DirectoriesHold t) where
               go false g = rw (owner-test d n e h ∙ g) (and-false (holds t d (e - 1)))
 
   -- any other does
-  pub later-follows : (n e : ℕ) → Held t n e → t .first n < e → follows t e ≡ true
+  pub later-follows : {n e : ℕ} → Held t n e → t .first n < e → follows t e ≡ true
   unfolding follows
-  later-follows n e h l =
+  later-follows {n} {e} h l =
       rw (lt-ltb 0 e (omega arith))
       (find-exists (λ d. holds t d (e - 1) && holds t d e) 0 (t .nodes) n (omega arith) (omega (arith, directory-below t directories n (h .directory)))
-      (rw (held-holds t n (e - 1) (record { directory = h .directory; from = omega arith; below = omega (arith, h .below) }), held-holds t n e h)))
+      (rw (held-holds {e = e - 1} (record { directory = h .directory; from = omega arith; below = omega (arith, h .below) }), held-holds h)))
 
   -- the order that rule 5 asks for: none of the first entry, and of any other that it comes after the one before it
-  pub first-ascends : (n e : ℕ) → Held t n e → t .first n ≡ e → ascends t e ≡ true
+  pub first-ascends : {n e : ℕ} → Held t n e → t .first n ≡ e → ascends t e ≡ true
   unfolding ascends
-  first-ascends n e h q = rw (first-follows n e h q)
+  first-ascends {n} {e} h q = rw (first-follows h q)
 
-  pub later-ascends : (n e : ℕ) → Held t n e → t .first n < e → ascends t e ≡ before (t .name (e - 1)) (t .name e)
+  pub later-ascends : {n e : ℕ} → Held t n e → t .first n < e → ascends t e ≡ before (t .name (e - 1)) (t .name e)
   unfolding ascends
-  later-ascends n e h l = rw (later-follows n e h l)
+  later-ascends {n} {e} h l = rw (later-follows h l)
 
   -- "stands in that directory's parent" (RULES 4.5f): the directory that holds the entry
-  pub directory-stands : (n e : ℕ) → Held t n e → isDirectory t (t .entryNode e) ≡ true
+  pub directory-stands : {n e : ℕ} → Held t n e → isDirectory t (t .entryNode e) ≡ true
       → standsInParent t e ≡ (eqb (t .parent (t .entryNode e)) n && ltb (t .parent (t .entryNode e)) (t .entryNode e))
   unfolding standsInParent
-  directory-stands n e h d = rw (d, owner-test (t .parent (t .entryNode e)) n e h)
+  directory-stands {n} {e} h d = rw (d, owner-test (t .parent (t .entryNode e)) n e h)
 
 pub other-stands : (t : Tree) (e : ℕ) → isDirectory t (t .entryNode e) ≡ false → standsInParent t e ≡ true
 unfolding standsInParent

@@ -28,14 +28,14 @@ module _ (t : Tree) (sound : Sound t) where
   enter-by-inside p none e h = h
   enter-by-inside p (some m) e h = root-inside m (mount-on-below t p m e .1)
 
-  pub enter-inside : (p : Place) → Inside t p → Inside t (enter t p .place)
+  pub enter-inside : {p : Place} → Inside t p → Inside t (enter t p .place)
   unfolding enter
-  enter-inside p h = enter-by-inside p (mountOn t p) refl h
+  enter-inside {p} h = enter-by-inside p (mountOn t p) refl h
 
   to-parent-inside : (p : Place) → p .mount < t .mounts → isDirectory t (p .node) ≡ true → Inside t (toParent t p .place)
   unfolding toParent
   to-parent-inside p m d =
-      enter-inside (placeAt (p .mount) (t .parent (p .node)))
+      enter-inside
       (record { mount-below = m; node-below = directory-below t (sound .nodes-hold .directories-hold) (t .parent (p .node)) (parent-directory t (sound .nodes-hold .directories-hold) (p .node) d) })
 
   climb-inside : (p : Place) → Inside t p → isDirectory t (p .node) ≡ true → Inside t (climb t p .place)
@@ -92,7 +92,7 @@ module _ (a : Request) (sound : Sound (a .tree)) (root : Inside (a .tree) (a .ro
   step-to-inside n h =
       cond-cases (StepInside (a .tree)) (isLink (a .tree) n && (not last || a .followLast)) _ _
       (λ e. follow-link-inside n h (both (isLink (a .tree) n) _ e .0))
-      (λ _. enter-inside (a .tree) sound (placeAt (p .mount) n) (record { mount-below = inside .mount-below; node-below = h }))
+      (λ _. enter-inside (a .tree) sound (record { mount-below = inside .mount-below; node-below = h }))
 
   step-by-inside : (name : List ℕ) (o : Option ℕ) → lookup (a .tree) (p .node) name ≡ o → StepInside (a .tree) (stepBy a last p o)
   step-by-inside name none e = tt

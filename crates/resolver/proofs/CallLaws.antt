@@ -106,7 +106,7 @@ module _ (s : List ℕ) (h : Handle) (path how : List ℕ) where
       module _ {slash : Bool} (slash-is : slash ≡ endsInSlash path) {k : Request} (k-is : k ≡ numbersBy s h f slash) where
         pub walking : {c : Counts} → c ≡ countsOf s → Walking s c k
         walking counts-are =
-            let root = either-root-inside (treeOf s) (accepted-sound s accepted) (placeOf h) handle-stands (has IN-ROOT (f .resolve)) in
+            let root = either-root-inside (accepted-sound s accepted) (placeOf h) handle-stands (has IN-ROOT (f .resolve)) in
             record { reading = reading s accepted counts-are; root-inside = subst (λ x. Inside (treeOf s) (x .root)) (sym k-is) root }
 
         pub handle-found : Inside (treeOf s) (k .handle)

@@ -67,8 +67,8 @@ unfolding directoryCount find
 other-bad t n k = rw (ne-eqb (t .kind n) 1 k)
 
 module _ (t : Tree) (directories : DirectoriesHold t) where
-  pub held-inside : (n e : ℕ) → Held t n e → e < t .entries
-  held-inside n e h = omega (arith, entries-inside t directories n (h .directory), h .below)
+  pub held-inside : {n e : ℕ} → Held t n e → e < t .entries
+  held-inside {n} {e} h = omega (arith, entries-inside t directories n (h .directory), h .below)
 
   pub directory-bad : (n : ℕ) → n < t .nodes → t .kind n ≡ 1 → badIn t (t .first n) (t .count n) ≡ badOf t n
   unfolding directoryCount
@@ -132,8 +132,8 @@ module _ (c : Counts) (nodes entries text : List ℕ) where
       where
         by : (b : Bool) → ltb first e ≡ b
             → cond b (before (nameIn entries text (e - 1)) (nameIn entries text e)) true ≡ ascends (entriesTree c nodes entries text) e
-        by true l = sym (later-ascends (entriesTree c nodes entries text) directories n e h (omega (arith, ltb-true first e l)))
-        by false l = sym (first-ascends (entriesTree c nodes entries text) directories n e h (omega (arith, ltb-false first e l, h .from)))
+        by true l = sym (later-ascends (entriesTree c nodes entries text) directories h (omega (arith, ltb-true first e l)))
+        by false l = sym (first-ascends (entriesTree c nodes entries text) directories h (omega (arith, ltb-false first e l, h .from)))
 
     -- a directory whose entries end where all do
     ends-counts : (n : ℕ) → n < c .nodes → endsEntries c nodes n ≡ true → countsBefore (entriesTree c nodes entries text) (n + 1) ≡ c .entries

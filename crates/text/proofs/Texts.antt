@@ -22,5 +22,5 @@ pub path-readable : (t : Tree) → Readable t givenPath
 path-readable t e = absurd (e refl)
 
 -- rule 4 puts a symbolic link's body into the table's text
-pub link-readable : (t : Tree) → NodesHold t → (n : ℕ) → n < t .nodes → t .kind n ≡ 3 → Readable t n
-link-readable t nodes n h k = λ _. (h, omega (arith, symlink-facts t nodes n h k .0))
+pub link-readable : {t : Tree} → NodesHold t → (n : ℕ) → n < t .nodes → t .kind n ≡ 3 → Readable t n
+link-readable {t} nodes n h k = λ _. (h, omega (arith, symlink-facts nodes n h k .0))

@@ -57,8 +57,8 @@ answer-within R (stop a) w = w
 answer-within R (stand p later) w = answer-within R later w
 answer-within R (meet e p later) w = refused-within (forbids R e) p (answer R later) (w .0) (answer-within R later (w .1))
 
-pub room-bounded : (links pending : ℕ) (s : State) → Room links pending s → Bounded (s .progress)
-room-bounded links pending s r = record { few-links = omega (arith, r .links-left); few-components = omega (arith, r .texts-left) }
+pub room-bounded : {links pending : ℕ} {s : State} → Room links pending s → Bounded (s .progress)
+room-bounded {links} {pending} {s} r = record { few-links = omega (arith, r .links-left); few-components = omega (arith, r .texts-left) }
 
 finish-progress : (a : Request) (s : State) → progressOf (finish a s) ≡ s .progress
 unfolding finish
@@ -81,7 +81,7 @@ module _ (a : Request) (sound : Sound (a .tree)) (root : Inside (a .tree) (a .ro
   -- a text has at most 2,048 components
   land-ordered : (links : ℕ) (l : Landing) (pending : List Component) (s : State) → LandingInside (a .tree) l → Room (suc links) (length pending) s
       → TurnOrdered (a .tree) (suc links) (length pending) (land a l pending s)
-  land-ordered links outside pending s i r = room-bounded (suc links) (length pending) s r
+  land-ordered links outside pending s i r = room-bounded r
   land-ordered links (target p) pending s i r =
       (i, record { links-left = omega (arith, r .links-left); texts-left = omega (arith, r .texts-left) }, omega arith)
   land-ordered links (reading n p) pending s i r =
@@ -97,12 +97,12 @@ module _ (a : Request) (sound : Sound (a .tree)) (root : Inside (a .tree) (a .ro
 
   by-ordered : (links : ℕ) (pending : List Component) (s : State) (step : Step) → StepInside (a .tree) step → Room links (length pending) s
       → TransitionOrdered (a .tree) links (length pending) (transitionBy a links pending s step)
-  by-ordered links pending s (fail e) i r = record { met-bounded = room-bounded links (length pending) s r; turn-ordered = room-bounded links (length pending) s r }
+  by-ordered links pending s (fail e) i r = record { met-bounded = room-bounded r; turn-ordered = room-bounded r }
   by-ordered links pending s (go es p) i r =
-      record { met-bounded = room-bounded links (length pending) s r; turn-ordered = (i, record { links-left = r .links-left; texts-left = r .texts-left }) }
-  by-ordered zero pending s (follow es l) i r = record { met-bounded = room-bounded zero (length pending) s r; turn-ordered = room-bounded zero (length pending) s r }
+      record { met-bounded = room-bounded r; turn-ordered = (i, record { links-left = r .links-left; texts-left = r .texts-left }) }
+  by-ordered zero pending s (follow es l) i r = record { met-bounded = room-bounded r; turn-ordered = room-bounded r }
   by-ordered (suc links) pending s (follow es l) i r =
-      record { met-bounded = room-bounded (suc links) (length pending) s r; turn-ordered = land-ordered links l pending s i r }
+      record { met-bounded = room-bounded r; turn-ordered = land-ordered links l pending s i r }
 
   pub transition-ordered : (links : ℕ) (c : Component) (pending : List Component) (s : State) → Inside (a .tree) (s .place) → Room links (suc (length pending)) s
       → TransitionOrdered (a .tree) links (length pending) (transition a links c pending s)
@@ -112,7 +112,7 @@ module _ (a : Request) (sound : Sound (a .tree)) (root : Inside (a .tree) (a .ro
       cond-cases (TransitionOrdered (a .tree) links (length pending)) (isDirectory (a .tree) (s .place .node)) _ _
       (λ d. by-ordered links pending (taken s) (oneComponent a (isEmpty pending) (s .place) (c .bytes))
       (one-component-inside a sound root (isEmpty pending) (s .place) i d (c .bytes)) next)
-      (λ _. record { met-bounded = room-bounded links (suc (length pending)) s r; turn-ordered = room-bounded links (suc (length pending)) s r })
+      (λ _. record { met-bounded = room-bounded r; turn-ordered = room-bounded r })
 
   turned-within : (links pending : ℕ) (on : State → Trace) (later : List Component → State → Trace)
       → ((s : State) → Inside (a .tree) (s .place) → Room links pending s → Within (on s))
@@ -126,7 +126,7 @@ module _ (a : Request) (sound : Sound (a .tree)) (root : Inside (a .tree) (a .ro
       → ((cs : List Component) (s : State) → Inside (a .tree) (s .place) → Room (links - 1) (length cs) s → Within (later cs s))
       → (pending : List Component) (s : State) → Inside (a .tree) (s .place) → Room links (length pending) s → Within (walkPending a links later pending s)
   unfolding walkPending
-  pending-within links later hl [] s i r = subst Bounded (sym (finish-progress a s)) (room-bounded links 0 s r)
+  pending-within links later hl [] s i r = subst Bounded (sym (finish-progress a s)) (room-bounded r)
   pending-within links later hl (c ∷ pending) s i r =
       let t = transition a links c pending s in
       let o = transition-ordered links c pending s i r in
@@ -136,7 +136,7 @@ module _ (a : Request) (sound : Sound (a .tree)) (root : Inside (a .tree) (a .ro
   pub walk-within : (links : ℕ) (pending : List Component) (s : State) → Inside (a .tree) (s .place) → Room links (length pending) s
       → Within (walk a links pending s)
   unfolding walk
-  walk-within zero pending s i r = pending-within zero noneLeft (λ cs s′ j q. room-bounded zero (length cs) s′ q) pending s i r
+  walk-within zero pending s i r = pending-within zero noneLeft (λ cs s′ j q. room-bounded q) pending s i r
   walk-within (suc links) pending s i r =
       let e : suc links - 1 ≡ links = omega arith in
       pending-within (suc links) (walk a links) (λ cs s′ j q. walk-within links cs s′ j (subst (λ (n : ℕ). Room n (length cs) s′) e q)) pending s i r
@@ -156,8 +156,8 @@ module _ (a : Request) (sound : Sound (a .tree)) (root : Inside (a .tree) (a .ro
       (λ _. begin-within directory path (a .handle) h i)
 
 -- a call's root, the handle's place or mount 0's root, is in a sound tree
-pub either-root-inside : (t : Tree) → Sound t → (p : Place) → Inside t p → (b : Bool) → Inside t (cond b p (rootOf t 0))
-either-root-inside t sound p inside b =
+pub either-root-inside : {t : Tree} → Sound t → (p : Place) → Inside t p → (b : Bool) → Inside t (cond b p (rootOf t 0))
+either-root-inside {t} sound p inside b =
     cond-cases (Inside t) b p (rootOf t 0) (λ _. inside) (λ _. root-inside t sound 0 (sound .mounts-hold .some-mount))
 
 resolve-bounded-by : (image : List ℕ) (call : Call) (o : Option Refusal) → refusedBefore image call ≡ o
@@ -169,7 +169,7 @@ resolve-bounded-by image call none e u =
     let un = unrefused image call e in
     let sound = accepted-sound image (un .table-passes) in
     let handle = handle-inside tree (call .handle) (un .handle-passes) in
-    let root = either-root-inside tree sound (placeOf (call .handle)) handle (has IN-ROOT (resolveOf (call .how))) in
+    let root = either-root-inside sound (placeOf (call .handle)) handle (has IN-ROOT (resolveOf (call .how))) in
     let directory = has O-DIRECTORY (flagsOf (call .how)) || endsInSlash (call .path) in
     answer-within (restrictions call) (traceOf image call)
     (path-within (requestOf image call) sound root directory (call .path) (path-short (call .path) (un .path-passes)) handle)

@@ -113,7 +113,7 @@ restricted-cases P R links pending t stopped next = by (forbidAny R (t .events))
     by (some e) = stopped e
 
 on-with-ordered : (t : Tree) (links : ℕ) (pending : List Component) (s : State) → Inside t (s .place) → Room links (length pending) s → OrderedOnward t (onWith links pending s)
-on-with-ordered t links [] s i r = (i, room-bounded links 0 s r)
+on-with-ordered t links [] s i r = (i, room-bounded r)
 on-with-ordered t links (c ∷ pending) s i r = record { inside = i; room = r }
 
 next-ordered : (t : Tree) (links : ℕ) (pending : List Component) (x : Turn) → TurnOrdered t links (length pending) x → OrderedOnward t (nextBy links pending x)
@@ -125,7 +125,7 @@ next-ordered t links pending (followed cs s) o = on-with-ordered t (links - 1) c
 module _ (R : Restrictions) (a : Request) (sound : Sound (a .tree)) (root : Inside (a .tree) (a .root)) where
   step-of-ordered : (links : ℕ) (pending : List Component) (s : State) → Inside (a .tree) (s .place) → Room links (length pending) s
       → OrderedOnward (a .tree) (stepOf R a links pending s)
-  step-of-ordered links [] s i r = (i, room-bounded links 0 s r)
+  step-of-ordered links [] s i r = (i, room-bounded r)
   step-of-ordered links (c ∷ pending) s i r =
       let o = transition-ordered a sound root links c pending s i r in
       restricted-cases (OrderedOnward (a .tree)) R links pending (transition a links c pending s) (λ e. o .met-bounded)

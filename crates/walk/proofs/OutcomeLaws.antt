@@ -104,7 +104,7 @@ module _ {s path stack : List ℕ} {k : Request} {c : Counts} {w : Walk} {last :
   body-text = text-body (treeOf s) path n (λ (e : n ≡ givenPath). omega (arith, b .good .2, b .walking .reading .counted .sized .few-nodes))
 
   pub body-held : treeOf s .first n + treeOf s .count n ≤ treeOf s .textLength
-  body-held = symlink-facts (treeOf s) (sound .nodes-hold) n (b .good .2) (b .good .3) .0
+  body-held = symlink-facts (sound .nodes-hold) n (b .good .2) (b .good .3) .0
 
   -- its components are in front of what was pending
   front : (after : List ℕ) (d : ℕ) → suspended (treeOf s) path after d ≡ pending (treeOf s) path stack w
@@ -146,7 +146,7 @@ module _ {s path stack : List ℕ} {k : Request} {c : Counts} {w : Walk} {last :
             resting = record {
               placed = record {
                 small = omega (arith, b .good .2, b .walking .reading .counted .sized .few-nodes);
-                readable = link-readable (treeOf s) (sound .nodes-hold) n (b .good .2) (b .good .3);
+                readable = link-readable (sound .nodes-hold) n (b .good .2) (b .good .3);
                 short = rw body-text (body-small (treeOf s) sound n (b .good .2) (b .good .3));
                 stands = subst (λ xs. Stands xs (slashes (treeOf s .body n))) (sym body-text) (start-stands (treeOf s .body n));
               };

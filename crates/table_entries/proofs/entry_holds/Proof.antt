@@ -20,7 +20,7 @@ tree s = entriesTree (s .args .c) (now (s .args .nodes)) (now (s .args .entries)
 
 -- the entry is one of the table's, and its order is told by the directory's first
 inside : (s : tie.Start) → s .args .e < s .args .c .entries
-inside s = held-inside (tree s) (s .pre .0 .directories-hold) (s .args .n) (s .args .e) (s .pre .1)
+inside s = held-inside (tree s) (s .pre .0 .directories-hold) (s .pre .1)
 
 order : (s : tie.Start) → ascendsFrom (now (s .args .entries)) (now (s .args .text)) (s .args .first) (s .args .e) ≡ ascends (tree s) (s .args .e)
 order s = ascends-from (s .args .c) (now (s .args .nodes)) _ _ (s .pre .0 .directories-hold) (s .args .n) _ _ (s .pre .1) (s .pre .2)

@@ -21,7 +21,7 @@ entry-node-requires c κs =
     let a = c .before .before .args in
     let p = c .before .before .pre in
     let t = entriesTree (a .c) (now (a .nodes)) (now (a .entries)) [] in
-    omega (arith, held-inside t (p .0 .directories-hold) (a .n) (a .e) (p .1), p .0 .entry-records .whole)
+    omega (arith, held-inside t (p .0 .directories-hold) (p .1), p .0 .entry-records .whole)
 
 returns : tie.Need-returns
 returns c =
@@ -49,7 +49,7 @@ stands d =
     let t = tree s in
     let kind = d .before .before .node-kind .ensures .0 ∙ ap (t .kind) (d .before .before .before .entry-node .ensures .0) in
     let directory = is-directory t (t .entryNode (s .args .e)) (s .pre .2) (sym kind ∙ d .before .if1 .left) in
-    directory-stands t (s .pre .0 .directories-hold) (s .args .n) (s .args .e) (s .pre .1) directory
+    directory-stands t (s .pre .0 .directories-hold) (s .pre .1) directory
 
 returns-2 : tie.Need-returns-2
 returns-2 c =

@@ -17,7 +17,7 @@ returns c =
     let args = d .args in
     let name-length = c .before .name-length in
     let pre = d .pre in
-    sym (differing (treeOf (now (args .image)) .name (args .e)) (now (args .wanted)) (λ q. omega (arith, name-length .ensures .0, name-whole (now (args .image)) (args .e) (pre .0 .sized) (pre .2))))
+    sym (differing (treeOf (now (args .image)) .name (args .e)) (now (args .wanted)) (λ q. omega (arith, name-length .ensures .0, name-whole (args .e) (pre .0 .sized) (pre .2))))
 
 same-sized-requires : tie.Need-same-sized-requires
 same-sized-requires c κs =
@@ -26,7 +26,7 @@ same-sized-requires c κs =
     let pre = d .pre in
     let name-length = c .before .before .name-length in
     let if1 = c .before .if1 in
-    ap length (c .name .ensures) ∙ name-whole (now (args .image)) (args .e) (pre .0 .sized) (pre .2) ∙ sym (name-length .ensures .0) ∙ if1 .left
+    ap length (c .name .ensures) ∙ name-whole (args .e) (pre .0 .sized) (pre .2) ∙ sym (name-length .ensures .0) ∙ if1 .left
 
 returns-2 : tie.Need-returns-2
 returns-2 c =
