@@ -12,7 +12,8 @@ use Rattle.model.specs.Bytes.{orElse, contains, has}
 use Rattle.model.specs.Tree.{Tree, treeOf, isDirectory, under, covered}
 use Rattle.model.specs.TableCheck.{tableCheck}
 use Rattle.model.specs.Answers.{notWalked, refusal, refuseIf}
-use Rattle.model.specs.OpenHow.{flagsOf, resolveOf, unknownBit, refuseUnknown, tailSet, lengthRefused, flagsRefused, resolveRefused, scopesRefused, modeSet, modeRefused, howRefused, knownFlags, knownResolve, BENEATH, IN-ROOT}
+use Rattle.model.specs.OpenHow.{flagsOf, resolveOf, unknownBit, refuseUnknown, tailSet, lengthRefused, flagsRefused, resolveRefused}
+use Rattle.model.specs.OpenHow.{scopesRefused, modeSet, modeRefused, howRefused, knownFlags, knownResolve, BENEATH, IN-ROOT}
 use Rattle.model.specs.Path.{pathRefused}
 use Rattle.model.specs.Handles.{placeOf, handleRefused}
 use Rattle.model.specs.Resolve.{Call, refusedTable, refusedAfterTable, refusedBefore}

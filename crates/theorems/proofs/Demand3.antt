@@ -16,7 +16,8 @@ use borrow.Author.Tests.{ltb-true, ltb-false}
 use Rattle.model.specs.Bytes.{field, has, isSome}
 use Rattle.model.specs.Tree.{Tree, treeOf}
 use Rattle.model.specs.Answers.{refused, refuseIf}
-use Rattle.model.specs.OpenHow.{flagsOf, modeOf, paddingOf, resolveOf, unknownBit, tailSet, lengthRefused, scopesRefused, modeSet, howRefused, knownResolve, NO-XDEV, NO-MAGICLINKS, NO-SYMLINKS, BENEATH, IN-ROOT}
+use Rattle.model.specs.OpenHow.{flagsOf, modeOf, paddingOf, resolveOf, unknownBit, tailSet, lengthRefused, scopesRefused}
+use Rattle.model.specs.OpenHow.{modeSet, howRefused, knownResolve, NO-XDEV, NO-MAGICLINKS, NO-SYMLINKS, BENEATH, IN-ROOT}
 use Rattle.model.specs.Handles.{placeOf, handleRefused}
 use Rattle.model.specs.Trace.{Restriction, mark, beneath, noXdev, noSymlinks, noMagiclinks, Restrictions}
 use Rattle.model.specs.Resolve.{Call, refusedAfterTable, refusedBefore, restrictions, requestOf, traceOf, resolve}

@@ -153,7 +153,9 @@ module _ {s path stack : List ℕ} {w : Walk} (r : Resting s path stack w) (room
       behind = rw (add-one (w .depth)) (ap₂ _++_ top (suspended-ext (treeOf s) path stack (set stack (w .depth) (w .text * 4096 + w .at)) (w .depth) pushed-same));
       each = λ i l.
           ⊎-elim
-          (λ (e : i ≡ w .depth). subst (Suspended (treeOf s) path) (sym (ap (λ (j : ℕ). getD (set stack (w .depth) (w .text * 4096 + w .at)) j 0) e ∙ pushed-top)) (here-suspended (unended r text-is end-is h)))
+          (λ (e : i ≡ w .depth).
+          subst (Suspended (treeOf s) path) (sym (ap (λ (j : ℕ). getD (set stack (w .depth) (w .text * 4096 + w .at)) j 0) e ∙ pushed-top))
+          (here-suspended (unended r text-is end-is h)))
           (λ (u : i < w .depth). subst (Suspended (treeOf s) path) (sym (pushed-same i u)) (r .each i u))
           (eq-or-lt-of-le {n = i} {m = w .depth} (omega arith));
     }

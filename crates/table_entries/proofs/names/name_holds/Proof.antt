@@ -71,7 +71,9 @@ returns-5 c =
     let at = t .nameOffset (a .e) in
     let l = t .nameLength (a .e) in
     let good = ap (holdsBarred true) (sym (name .ensures)) ∙ sym (holds-forbidden .ensures) ∙ c .before .before .if4 .left in
-    let other = ap dotsOf (sym (name .ensures)) ∙ dots-other (now (name .result)) (λ z. absurd (omega (arith, z, ap length (name .ensures), part-whole (now (a .text)) at l (omega arith)))) (c .if5 .taken) in
+    let whole = part-whole (now (a .text)) at l (omega arith) in
+    let full = λ z. absurd (omega (arith, z, ap length (name .ensures), whole)) in
+    let other = ap dotsOf (sym (name .ensures)) ∙ dots-other (now (name .result)) full (c .if5 .taken) in
     sym (name-test t (a .e) ∙ rw (le-leb (at + l) (t .textLength) (omega arith), le-leb 1 l (omega arith), le-leb l 255 (omega arith), good, other))
 
 returns-6 : tie.Need-returns-6
