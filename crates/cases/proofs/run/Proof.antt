@@ -13,9 +13,6 @@ Inv-loop s count passed₀ i₀ passed i = (i ≤ count) × (passed ≤ i)
 abbrev μ-loop : tie.MeasureT-loop
 μ-loop s count passed₀ i₀ passed i = count - i
 
-loop-again : tie.Need-loop-again Inv-loop μ-loop
-loop-again c = ⊎-elim (λ w. omega arith) (λ w. omega arith) (c .if2 .came)
-
 pub run-spec : {M : Type 1} → statement M
 run-spec =
     tie.close
@@ -24,5 +21,5 @@ run-spec =
     μ-loop
     (λ c. search needs) (λ c. search needs) (λ c. search needs) (λ c. search needs) (λ c. search needs)
     (λ c κs. search needs) (λ c. search needs) (λ c. search needs) (λ c. search needs)
-    loop-again
+    (λ c. ⊎-elim (λ w. omega arith) (λ w. omega arith) (c .if2 .came))
     (λ c. search needs))
