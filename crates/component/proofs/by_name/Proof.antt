@@ -9,8 +9,7 @@ by-name-spec =
     tie.close
     (tie.spec
     (λ c. search (needs, name-long))
-    (λ c κs. search needs)
-    (λ c. search needs)
+    (λ c κs. search needs) (λ c. search needs)
     (λ c κs. search (needs, entry-below))
     (λ c κs. search (needs, named-below))
     (λ c. search needs)

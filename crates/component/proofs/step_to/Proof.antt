@@ -8,12 +8,10 @@ pub step-to-spec : {M : Type 1} → statement M
 step-to-spec =
     tie.close
     (tie.spec
-    (λ c κs. search needs)
-    (λ c κs. search needs)
+    (λ c κs. search needs) (λ c κs. search needs)
     (λ c κs. search (needs, kind-told))
     (λ c κs. search (needs, kind-told))
     (λ c. search (needs, to-directory))
     (λ c. search (needs, to-file))
-    (λ c. search needs)
-    (λ c. search needs)
+    (λ c. search needs) (λ c. search needs)
     (λ c. search (needs, to-other)))

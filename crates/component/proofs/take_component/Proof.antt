@@ -8,9 +8,7 @@ pub take-component-spec : {M : Type 1} → statement M
 take-component-spec =
     tie.close
     (tie.spec
-    (λ c κs. search needs)
-    (λ c κs. search needs)
-    (λ c κs. search needs)
+    (λ c κs. search needs) (λ c κs. search needs) (λ c κs. search needs)
     (λ c. search (needs, one-dot))
     (λ c. search (needs, two-dots))
     (λ c. search (needs, no-dots)))

@@ -12,7 +12,6 @@ check-length-spec =
     (λ c. search (needs, length-short))
     (λ c κs. search needs)
     (λ c. search (needs, length-over))
-    (λ c κs. search needs)
-    (λ c κs. search needs)
+    (λ c κs. search needs) (λ c κs. search needs)
     (λ c. search (needs, length-tail))
     (λ c. search (needs, length-passes)))

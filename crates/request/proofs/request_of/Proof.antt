@@ -15,9 +15,7 @@ pub request-of-spec : {M : Type 1} → statement M
 request-of-spec =
     tie.close
     (tie.spec
-    (λ c κs. search needs)
-    (λ c κs. search needs)
-    (λ c κs. search needs)
+    (λ c κs. search needs) (λ c κs. search needs) (λ c κs. search needs)
     (λ c. rw (c .before .before .before .follows-last .ensures, c .before .before .has .ensures, sym (c .before .has2 .ensures) ∙ c .if1 .taken))
     (λ c κs. search needs)
     returns-2)

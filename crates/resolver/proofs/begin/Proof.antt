@@ -8,8 +8,7 @@ pub begin-spec : {M : Type 1} → statement M
 begin-spec =
     tie.close
     (tie.spec
-    (λ c κs. search needs)
-    (λ c κs. search needs)
+    (λ c κs. search needs) (λ c κs. search needs)
     (λ c. search (needs, begin-ended))
     (λ c. search needs)
     (λ c κs. search (needs, begin-ready))

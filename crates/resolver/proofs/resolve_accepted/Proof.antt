@@ -10,8 +10,7 @@ resolve-accepted-spec =
     (tie.spec
     (λ c κs. search (needs, header))
     (λ c κs. search (needs, counts))
-    (λ c. search needs)
-    (λ c κs. search needs)
+    (λ c. search needs) (λ c κs. search needs)
     (λ c κs. search (needs, counts))
     (λ c κs. search needs)
     (λ c κs. search (needs, walking, handle-found, path-few))

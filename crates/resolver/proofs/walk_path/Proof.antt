@@ -8,13 +8,11 @@ pub walk-path-spec : {M : Type 1} → statement M
 walk-path-spec =
     tie.close
     (tie.spec
-    (λ c κs. search needs)
-    (λ c κs. search needs)
+    (λ c κs. search needs) (λ c κs. search needs)
     (λ c. search (needs, from-handle))
     (λ c κs. search needs)
     (λ c. search (needs, start-marked))
-    (λ c κs. search needs)
-    (λ c κs. search needs)
+    (λ c κs. search needs) (λ c κs. search needs)
     (λ c. search (needs, start-beneath))
     (λ c κs. search needs)
     (λ c. search (needs, from-root)))

@@ -9,14 +9,12 @@ pub finish-spec : {M : Type 1} → statement M
 finish-spec =
     tie.close
     (tie.spec
-    (λ c κs. search needs)
-    (λ c κs. search needs)
+    (λ c κs. search needs) (λ c κs. search needs)
     (λ c. search (needs, required-file))
     (λ c κs. search needs)
     (λ c. search (needs, required-other))
     (λ c. search (needs, end-link-path))
-    (λ c κs. search needs)
-    (λ c κs. search needs)
+    (λ c κs. search needs) (λ c κs. search needs)
     (λ c. search (needs, required-other))
     (λ c. search (needs, end-directory))
     (λ c. search (needs, end-file))

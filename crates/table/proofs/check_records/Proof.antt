@@ -8,8 +8,7 @@ pub check-records-spec : {M : Type 1} → statement M
 check-records-spec =
     tie.close
     (tie.spec
-    (λ c κs. search needs)
-    (λ c. search needs)
+    (λ c κs. search needs) (λ c. search needs)
     (λ c. search (needs, by-node))
     (λ c. search needs)
     (λ c κs. search (needs, directories))

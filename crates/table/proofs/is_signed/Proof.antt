@@ -16,8 +16,7 @@ is-signed-spec =
     tie.close
     (tie.spec
     (λ c. simp length-take (omega arith))
-    (λ c. search needs)
-    (λ c κs. search needs)
+    (λ c. search needs) (λ c κs. search needs)
     (λ c. rw (sym (c .before .same .ensures) ∙ not-true _ (c .if1 .taken)))
     (λ c κs. search needs)
     (λ c. ap (λ (x : ℕ). eqb x 0) (c .u16-at .ensures .0) ∙ rw (sym (c .before .before .same .ensures) ∙ not-false _ (c .before .if1 .left))))

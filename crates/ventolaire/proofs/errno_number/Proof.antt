@@ -14,15 +14,8 @@ pub errno-number-spec : {M : Type 1} → statement M
 errno-number-spec =
     tie.close
     (tie.spec
-    (λ c. search needs)
-    (λ c. search needs)
-    (λ c. search needs)
-    (λ c. search needs)
-    (λ c. search needs)
-    (λ c. search needs)
-    (λ c. search needs)
-    (λ c. search needs)
-    (λ c. search needs)
+    (λ c. search needs) (λ c. search needs) (λ c. search needs) (λ c. search needs) (λ c. search needs) (λ c. search needs)
+    (λ c. search needs) (λ c. search needs) (λ c. search needs)
     (λ c. arm (c .enum-told .given .1))
     (λ c. arm (c .enum-told2 .given .1))
     (λ c. arm (c .enum-told3 .given .1))

@@ -9,7 +9,5 @@ ventolaire-check-spec =
     tie.close
     (tie.spec
     (λ c. search (needs, verdict-short))
-    (λ c κs. search needs)
-    (λ c κs. search needs)
-    (λ c. search needs)
+    (λ c κs. search needs) (λ c κs. search needs) (λ c. search needs)
     (λ c. search (needs, verdict-writes)))

@@ -9,7 +9,5 @@ ventolaire-resolve-spec =
     tie.close
     (tie.spec
     (λ c. search (needs, answer-short))
-    (λ c κs. search needs)
-    (λ c κs. search needs)
-    (λ c. search needs)
+    (λ c κs. search needs) (λ c κs. search needs) (λ c. search needs)
     (λ c. search (needs, answer-writes)))

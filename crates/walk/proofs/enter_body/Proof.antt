@@ -10,12 +10,7 @@ enter-body-spec =
     (tie.spec
     (λ c κs. search needs)
     (λ c κs. search (needs, at-within))
-    (λ c. search needs)
-    (λ c. search needs)
-    (λ c. search needs)
-    (λ c. search needs)
-    (λ c. search needs)
-    (λ c. search needs)
+    (λ c. search needs) (λ c. search needs) (λ c. search needs) (λ c. search needs) (λ c. search needs) (λ c. search needs)
     (λ c. search needs)
     (λ c. search (needs, entered-pushed))
     (λ c. search (needs, entered-ended)))

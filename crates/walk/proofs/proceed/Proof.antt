@@ -8,9 +8,7 @@ pub proceed-spec : {M : Type 1} → statement M
 proceed-spec =
     tie.close
     (tie.spec
-    (λ c. search needs)
-    (λ c. search needs)
-    (λ c κs. search needs)
+    (λ c. search needs) (λ c. search needs) (λ c κs. search needs)
     (λ c κs. search (needs, go-resting))
     (λ c. search needs)
     (λ c κs. search (needs, target-few))

@@ -9,13 +9,9 @@ read-body-spec =
     tie.close
     (tie.spec
     (λ c κs. search (needs, body-held))
-    (λ c κs. search needs)
-    (λ c κs. search needs)
-    (λ c κs. search needs)
-    (λ c κs. search needs)
+    (λ c κs. search needs) (λ c κs. search needs) (λ c κs. search needs) (λ c κs. search needs)
     (λ c κs. search (needs, body-resting))
     (λ c. search needs)
     (λ c. search (needs, read-behind))
-    (λ c κs. search needs)
-    (λ c. search needs)
+    (λ c κs. search needs) (λ c. search needs)
     (λ c. search (needs, read-entered)))

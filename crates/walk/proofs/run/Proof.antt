@@ -21,16 +21,12 @@ run-spec =
     (tie.spec
     Inv-loop
     μ-loop
-    (λ c. search needs)
-    (λ c κs. search needs)
-    (λ c. search needs)
+    (λ c. search needs) (λ c κs. search needs) (λ c. search needs)
     (λ c. search (needs, goes-further))
     (λ c. search (needs, further-long, further-ready, further-same))
     (λ c. search needs)
     (λ c κs. search (needs, ended-inside))
     (λ c. search needs)
     (λ c. search (needs, ended-same))
-    (λ c. search needs)
-    (λ c κs. search needs)
-    (λ c. search needs)
+    (λ c. search needs) (λ c κs. search needs) (λ c. search needs)
     (λ c. search (needs, failed-same)))

@@ -12,7 +12,6 @@ check-path-spec =
     (λ c. search (needs, path-long))
     (λ c κs. search needs)
     (λ c. search (needs, path-empty))
-    (λ c κs. search needs)
-    (λ c κs. search needs)
+    (λ c κs. search needs) (λ c κs. search needs)
     (λ c. search (needs, path-zero))
     (λ c. search (needs, path-passes)))

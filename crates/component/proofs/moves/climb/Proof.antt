@@ -8,12 +8,10 @@ pub climb-spec : {M : Type 1} → statement M
 climb-spec =
     tie.close
     (tie.spec
-    (λ c κs. search needs)
-    (λ c κs. search needs)
+    (λ c κs. search needs) (λ c κs. search needs)
     (λ c. search (needs, climb-within))
     (λ c κs. search needs)
     (λ c. search (needs, climb-barred))
-    (λ c κs. search needs)
-    (λ c κs. search needs)
+    (λ c κs. search needs) (λ c κs. search needs)
     (λ c κs. search (needs, point-mount, point-stood))
     (λ c. search (needs, climb-point)))

@@ -8,9 +8,7 @@ pub enter-spec : {M : Type 1} → statement M
 enter-spec =
     tie.close
     (tie.spec
-    (λ c κs. search needs)
-    (λ c. search needs)
-    (λ c κs. search needs)
+    (λ c κs. search needs) (λ c. search needs) (λ c κs. search needs)
     (λ c. search (needs, cover-barred))
     (λ c κs. search (needs, cover-below))
     (λ c. search needs)

@@ -8,8 +8,7 @@ pub go-up-spec : {M : Type 1} → statement M
 go-up-spec =
     tie.close
     (tie.spec
-    (λ c κs. search needs)
-    (λ c κs. search needs)
+    (λ c κs. search needs) (λ c κs. search needs)
     (λ c. search (needs, up-elsewhere))
     (λ c. search (needs, up-marked))
     (λ c κs. search needs)

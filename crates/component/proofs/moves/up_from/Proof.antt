@@ -10,8 +10,7 @@ up-from-spec =
     (tie.spec
     (λ c κs. search needs)
     (λ c. search (needs, up-root))
-    (λ c κs. search needs)
-    (λ c κs. search needs)
+    (λ c κs. search needs) (λ c κs. search needs)
     (λ c. search (needs, up-top))
     (λ c κs. search needs)
     (λ c. search (needs, up-climbs)))
