@@ -4,8 +4,7 @@ use fields::u16_at;
 use parts::records::Counts;
 ghost use mathlib.Core.Path.{_≡_};
 ghost use Prim.Native.Nat.{_+_};
-ghost use lib.ListN.{length};
-ghost use Rattle.model.specs.Tree.{sizesOf, textAt, nodesPart, mountsPart, entriesPart, textPart, treeOf};
+ghost use Rattle.model.specs.Tree.{sizesOf, nodesPart, mountsPart, entriesPart, textPart};
 ghost use Rattle.laws.specs.Acceptance.{Sized};
 ghost use Rattle.image.specs.Counts.{Counted};
 

@@ -1,5 +1,5 @@
 -- The handle check (RULES 7.4).
-use mathlib.Core.Bool.{Bool, not, _&&_, _||_}
+use mathlib.Core.Bool.{not, _&&_, _||_}
 use mathlib.Core.Option.{Option, none}
 use lib.Dec.{ltb}
 use Rattle.model.specs.Tree.{Tree, isDirectory, under, covered}

@@ -31,7 +31,6 @@ ghost use Prim.Native.Nat.{ℕ, _≤_};
 ghost use lib.ListN.{length};
 ghost use Rattle.model.specs.Bytes.{has};
 ghost use Rattle.model.specs.OpenHow.{O-DIRECTORY};
-ghost use Rattle.model.specs.Path.{endsInSlash};
 ghost use Rattle.model.specs.Tree.{treeOf};
 ghost use Rattle.model.specs.TableCheck.{tableCheck};
 ghost use Rattle.model.specs.Trace.{answer};

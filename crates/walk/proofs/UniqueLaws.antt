@@ -1,7 +1,7 @@
 -- A step's promise leaves one answer: two results that both meet it are equal, and so are the two stacks as far as they count. Above the
 -- depth a stack is free. Assumes nothing.
 use Prim.Native.Nat.{ℕ, zero, suc, _<_}
-use mathlib.Core.Bool.{true, false, true≢false}
+use mathlib.Core.Bool.{true≢false}
 use mathlib.Core.List.{List, _∷_, _++_, append-cancel-left}
 use mathlib.Core.Logic.{⊎-elim}
 use mathlib.Core.Path.{_≡_, refl, sym, ap, ap₂, _∙_}
