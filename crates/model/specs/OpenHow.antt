@@ -66,6 +66,7 @@ abbrev pub refuseUnknown : ℕ → Option ℕ → Option Refusal
 refuseUnknown base none = none
 refuseUnknown base (some b) = some (unknown (base + b))
 
+-- "flags, resolve" (RULES 6.10): an unknown bit of either
 abbrev pub flagsRefused : ℕ → Option Refusal
 flagsRefused flags = refuseUnknown 0 (unknownBit knownFlags flags)
 

@@ -40,6 +40,7 @@ refusedTable (Broken rule r) = some (refusal Euclean notWalked)
 unfoldable pub refusedAfterTable : List ℕ → Call → Option Refusal
 refusedAfterTable image call = orElse (howRefused (call .how)) (orElse (pathRefused (call .path)) (handleRefused (treeOf image) (call .handle)))
 
+-- all of these, the table first (RULES 7.1)
 unfoldable pub refusedBefore : List ℕ → Call → Option Refusal
 refusedBefore image call = orElse (refusedTable (tableCheck image)) (refusedAfterTable image call)
 

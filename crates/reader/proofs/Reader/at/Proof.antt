@@ -92,7 +92,8 @@ at-meets : {M : Type 1} (𝓤 : URA M) (H : Heap 𝓤) (A : Atoms 𝓤) → Give
     → Meets 𝓤 H A made-by.signature (WpFn 𝓤 H (𝓣 .C) (𝓣 .Λ) code.function) (made-by.spec 𝓤 H A mem run)
 at-meets 𝓤 H A W mem run 𝓣 = walk-meets 𝓤 H A made-by.ended stayed W
     (goes-none-slice 𝓤 H A W 1 (0 ∷ []) tt (plain (λ _. u8)) yes, (goes-none 𝓤 H A W 1 (λ _. usize) yes (λ κs x f. refl), tt)) (made-by.clauses 𝓤 H A mem run)
-    (WpFn 𝓤 H (𝓣 .C) (𝓣 .Λ) code.function) (WpFn-mono 𝓤 H (W .laws) 𝓣 code.function) (walked 𝓤 H A made-by.ended stayed (made-by.clauses 𝓤 H A mem run) (WpFn 𝓤 H (𝓣 .C) (𝓣 .Λ) code.function)
+    (WpFn 𝓤 H (𝓣 .C) (𝓣 .Λ) code.function) (WpFn-mono 𝓤 H (W .laws) 𝓣 code.function)
+    (walked 𝓤 H A made-by.ended stayed (made-by.clauses 𝓤 H A mem run) (WpFn 𝓤 H (𝓣 .C) (𝓣 .Λ) code.function)
     (λ κs. (slice-vals, (uint-vals w64, tt)))
     (λ κs. (shr-slice-tells (named 0) (κs .0) u8, (uint-tells w64, tt)))
     (λ κs qs bounds a g are. via 𝓤 _ (fst∗ 𝓤 _ (emp 𝓤)) (walk 𝓤 H A W mem run (κs .0) (qs .0) (a .0) (a .1 .0) (are .1 .0 .1) (𝓣 .C) (𝓣 .Λ) (are .0))))
