@@ -41,7 +41,7 @@ _ventolaire() {
     local word=${COMP_WORDS[COMP_CWORD]} before=${COMP_WORDS[COMP_CWORD - 1]} options
     COMPREPLY=()
     if [ "$COMP_CWORD" -eq 1 ]; then
-        _ventolaire_words '' "$word" 'check show resolve demo --help -h --version -V'
+        _ventolaire_words '' "$word" 'check show resolve script demo --help -h --version -V'
         return
     fi
     # bash makes --flag=PATH three words: the option, the sign, the value.
@@ -52,7 +52,7 @@ _ventolaire() {
     fi
     _ventolaire_value "$before" "$word" && return
     case ${COMP_WORDS[1]} in
-    check | demo) options='--json' ;;
+    check | script | demo) options='--json' ;;
     show) options='--dot --json' ;;
     resolve) options='--handle --mark --flag --resolve --how --paths-from -0 --null --json' ;;
     *) return ;;

@@ -5,18 +5,19 @@
  * Common to all functions:
  *
  * - A pair of a pointer and a length lends that many bytes. A null pointer is
- *   allowed where its length is 0. What is lent is only read.
+ *   allowed where its length is 0. What is lent is only read, but for `out` and a
+ *   table of descriptors, which must not overlap each other or what is lent.
  * - Answers are numbers written from out[0] on; out_len says how many numbers
  *   `out` has room for. With too little room nothing is written and the return
  *   value is 0. Otherwise the whole answer is written, the return value is how
- *   many numbers that are, and what lies behind them is not touched. `out` must
- *   not overlap what is lent.
+ *   many numbers that are, and what lies behind them is not touched.
  * - Later versions only append numbers to an answer: none changes its place or
  *   its meaning. An array with room for the numbers that an answer has today
  *   (the ..._LEN below) keeps getting these.
  * - Any bytes and any numbers may be passed: what is wrong with them is said by
- *   the answer. Only ventolaire_resolve_accepted asks for an accepted image.
- * - Nothing is allocated, and no state is kept between calls.
+ *   the answer. Only the functions named ..._accepted ask for an accepted image.
+ * - Nothing is allocated, and no state is kept between calls but in the caller's
+ *   own descriptors.
  *
  * The library needs no other library: cc program.c -L FOLDER -lventolaire
  * A freestanding program must bring memset, and no other function. The headers
@@ -39,9 +40,9 @@ extern "C" {
  * them that grows with every version, to be compared.
  */
 #define VENTOLAIRE_VERSION_MAJOR 0
-#define VENTOLAIRE_VERSION_MINOR 1
+#define VENTOLAIRE_VERSION_MINOR 2
 #define VENTOLAIRE_VERSION_PATCH 0
-#define VENTOLAIRE_VERSION 1000 /* major * 1,000,000 + minor * 1,000 + patch */
+#define VENTOLAIRE_VERSION 2000 /* major * 1,000,000 + minor * 1,000 + patch */
 
 /*
  * How to resolve: the bytes of an open_how, little-endian.
@@ -83,10 +84,12 @@ static inline void ventolaire_how(uint8_t how[VENTOLAIRE_HOW_SIZE],
 /* Why a path is refused: Linux's numbers, whatever the host's are. */
 #define VENTOLAIRE_ENOENT 2        /* empty path, no such name, or mark broken */
 #define VENTOLAIRE_E2BIG 7         /* open_how too long, or something behind it */
-#define VENTOLAIRE_EBADF 9         /* not a place that a handle can have */
+#define VENTOLAIRE_EBADF 9         /* no handle's place; a descriptor not open */
 #define VENTOLAIRE_EXDEV 18        /* leaves mount or handle; magic link in IN_ROOT */
 #define VENTOLAIRE_ENOTDIR 20      /* not a directory where one is needed */
 #define VENTOLAIRE_EINVAL 22       /* open_how not valid, or zero byte in the path */
+#define VENTOLAIRE_EMFILE 24       /* all 64 descriptors are open */
+#define VENTOLAIRE_ENOTTY 25       /* the mark is set on no directory */
 #define VENTOLAIRE_ENAMETOOLONG 36 /* path over 4,095 bytes, or name over 255 */
 #define VENTOLAIRE_ELOOP 40        /* over 40 links, or a link not to be followed */
 #define VENTOLAIRE_EUCLEAN 117     /* the table check fails */
@@ -102,6 +105,8 @@ static inline const char *ventolaire_error_name(uint64_t error)
     case VENTOLAIRE_EXDEV: return "EXDEV";
     case VENTOLAIRE_ENOTDIR: return "ENOTDIR";
     case VENTOLAIRE_EINVAL: return "EINVAL";
+    case VENTOLAIRE_EMFILE: return "EMFILE";
+    case VENTOLAIRE_ENOTTY: return "ENOTTY";
     case VENTOLAIRE_ENAMETOOLONG: return "ENAMETOOLONG";
     case VENTOLAIRE_ELOOP: return "ELOOP";
     case VENTOLAIRE_EUCLEAN: return "EUCLEAN";
@@ -172,10 +177,103 @@ size_t ventolaire_resolve_accepted(const uint8_t *image, size_t image_len,
                                    uint64_t *out, size_t out_len);
 
 /*
- * Writes the numbers of all refusals, in this order: EUCLEAN, E2BIG, EINVAL,
- * ENAMETOOLONG, ENOENT, EBADF, ENOTDIR, ELOOP, EXDEV.
+ * Descriptors: numbers that a script holds in place of handles, 0 to 63. Each is
+ * closed, or is a handle that keeps its mark: whatever is opened through a marked
+ * one stays below it, and no later call can forget that.
+ *
+ * The table of them is the caller's, 64 numbers that ventolaire_start fills in.
+ * They may be copied, and kept as long as the image they were started with; other
+ * numbers than the library's own stand for some descriptors too. A call that is
+ * refused leaves all of them as they were.
  */
-#define VENTOLAIRE_ERRNOS_LEN 9
+#define VENTOLAIRE_DESCRIPTORS 64
+
+typedef struct ventolaire_descriptors {
+    uint64_t slots[VENTOLAIRE_DESCRIPTORS]; /* 0: closed */
+} ventolaire_descriptors;
+
+/*
+ * Descriptors as a script starts with them: 0 is open on the root of mount 0,
+ * without the mark, and all others are closed. With an image that is not accepted
+ * all are closed. The answer is that of ventolaire_check.
+ */
+size_t ventolaire_start(const uint8_t *image, size_t image_len,
+                        ventolaire_descriptors *descriptors,
+                        uint64_t *out, size_t out_len);
+
+/* The same for an image that was accepted, as ventolaire_resolve_accepted wants
+ * it, without the check. */
+void ventolaire_start_accepted(const uint8_t *image, size_t image_len,
+                               ventolaire_descriptors *descriptors);
+
+/*
+ * What the calls below answer: the numbers of ventolaire_resolve's answer, then
+ * the descriptor given. What a call does not find or give is 0: only an open has
+ * a place and counts, only an open and a dup give a descriptor. A refusal that is
+ * not the resolver's has VENTOLAIRE_NO_DETAIL and both counts 0.
+ */
+enum {
+    VENTOLAIRE_REPLY_ERRNO, /* 0: done */
+    VENTOLAIRE_REPLY_DETAIL,
+    VENTOLAIRE_REPLY_MOUNT,
+    VENTOLAIRE_REPLY_NODE,
+    VENTOLAIRE_REPLY_COMPONENTS,
+    VENTOLAIRE_REPLY_LINKS,
+    VENTOLAIRE_REPLY_DESCRIPTOR, /* the lowest that was free */
+    VENTOLAIRE_REPLY_LEN         /* how many numbers the answer has: 7 */
+};
+
+/*
+ * Opens `path` from the descriptor `number`, as ventolaire_resolve does from its
+ * handle. The place found gets the lowest descriptor that is free, with the mark
+ * if `mark` asks for it and without it else, whatever the mark of `number`.
+ *
+ * Refused in this order: EBADF for a number that is not open; EINVAL if the mark
+ * is asked without VENTOLAIRE_O_DIRECTORY; what ventolaire_resolve refuses;
+ * EMFILE if all descriptors are open.
+ */
+size_t ventolaire_open(const uint8_t *image, size_t image_len,
+                       ventolaire_descriptors *descriptors,
+                       uint64_t number, bool mark,
+                       const uint8_t *path, size_t path_len,
+                       const uint8_t *how, size_t how_len,
+                       uint64_t *out, size_t out_len);
+
+/* The same for an image that was accepted, as ventolaire_resolve_accepted wants
+ * it, without the check. */
+size_t ventolaire_open_accepted(const uint8_t *image, size_t image_len,
+                                ventolaire_descriptors *descriptors,
+                                uint64_t number, bool mark,
+                                const uint8_t *path, size_t path_len,
+                                const uint8_t *how, size_t how_len,
+                                uint64_t *out, size_t out_len);
+
+/*
+ * Gives the lowest descriptor that is free the handle of `number`, its mark
+ * included. A mark that either gets later is its own. EBADF, then EMFILE.
+ */
+size_t ventolaire_dup(ventolaire_descriptors *descriptors, uint64_t number,
+                      uint64_t *out, size_t out_len);
+
+/* Closes `number`: it is free again. EBADF. */
+size_t ventolaire_close(ventolaire_descriptors *descriptors, uint64_t number,
+                        uint64_t *out, size_t out_len);
+
+/*
+ * Marks `number`, for good. EBADF, then ENOTTY for what is not a directory. The
+ * image is not checked: in one that is not accepted a directory is what its bytes
+ * say.
+ */
+size_t ventolaire_set_mark(const uint8_t *image, size_t image_len,
+                           ventolaire_descriptors *descriptors, uint64_t number,
+                           uint64_t *out, size_t out_len);
+
+/*
+ * Writes the numbers of all refusals, in this order: EUCLEAN, E2BIG, EINVAL,
+ * ENAMETOOLONG, ENOENT, EBADF, ENOTDIR, ELOOP, EXDEV, EMFILE, ENOTTY. An array
+ * with room for the first nine alone gets these.
+ */
+#define VENTOLAIRE_ERRNOS_LEN 11
 
 size_t ventolaire_errnos(uint64_t *out, size_t out_len);
 

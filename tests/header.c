@@ -27,9 +27,55 @@ static void names(void)
             HOLDS(strcmp(name, ventolaire_error_name(errnos[j])) != 0);
     }
     HOLDS(strcmp(ventolaire_error_name(VENTOLAIRE_EXDEV), "EXDEV") == 0);
+    HOLDS(strcmp(ventolaire_error_name(VENTOLAIRE_EMFILE), "EMFILE") == 0);
+    HOLDS(strcmp(ventolaire_error_name(VENTOLAIRE_ENOTTY), "ENOTTY") == 0);
+    HOLDS(VENTOLAIRE_EMFILE == 24 && VENTOLAIRE_ENOTTY == 25);
     HOLDS(ventolaire_error_name(0) == NULL);
     HOLDS(ventolaire_error_name(1) == NULL);
     HOLDS(ventolaire_error_name((UINT64_C(1) << 32) + VENTOLAIRE_EXDEV) == NULL);
+}
+
+/* Programs that were built when there were nine errnos keep getting these. */
+static void room(void)
+{
+    uint64_t errnos[VENTOLAIRE_ERRNOS_LEN];
+    HOLDS(VENTOLAIRE_ERRNOS_LEN == 11);
+    for (size_t len = 0; len <= VENTOLAIRE_ERRNOS_LEN; len++) {
+        memset(errnos, 0, sizeof errnos);
+        const size_t fits = len < 11 ? 9 : 11;
+        const size_t written = ventolaire_errnos(errnos, len);
+        HOLDS(written == (len < 9 ? 0 : fits));
+        HOLDS(written == 0 || errnos[8] == VENTOLAIRE_EXDEV);
+        HOLDS(written < 11 || errnos[10] == VENTOLAIRE_ENOTTY);
+        for (size_t i = written; i < VENTOLAIRE_ERRNOS_LEN; i++)
+            HOLDS(errnos[i] == 0);
+    }
+}
+
+/* A reply begins as an answer does, and a struct is its 64 numbers. */
+static void descriptors(void)
+{
+    HOLDS(VENTOLAIRE_DESCRIPTORS == 64 && sizeof(ventolaire_descriptors) == 512);
+    HOLDS((int)VENTOLAIRE_REPLY_ERRNO == (int)VENTOLAIRE_ANSWER_ERRNO);
+    HOLDS((int)VENTOLAIRE_REPLY_DETAIL == (int)VENTOLAIRE_ANSWER_DETAIL);
+    HOLDS((int)VENTOLAIRE_REPLY_MOUNT == (int)VENTOLAIRE_ANSWER_MOUNT);
+    HOLDS((int)VENTOLAIRE_REPLY_NODE == (int)VENTOLAIRE_ANSWER_NODE);
+    HOLDS((int)VENTOLAIRE_REPLY_COMPONENTS == (int)VENTOLAIRE_ANSWER_COMPONENTS);
+    HOLDS((int)VENTOLAIRE_REPLY_LINKS == (int)VENTOLAIRE_ANSWER_LINKS);
+    HOLDS((int)VENTOLAIRE_REPLY_DESCRIPTOR == (int)VENTOLAIRE_ANSWER_LEN);
+    HOLDS(VENTOLAIRE_REPLY_LEN == 7);
+
+    /* No image is none that is accepted: all are closed, and stay so. */
+    ventolaire_descriptors closed;
+    uint64_t out[VENTOLAIRE_REPLY_LEN];
+    memset(&closed, 0xa5, sizeof closed);
+    HOLDS(ventolaire_start(NULL, 0, &closed, out, VENTOLAIRE_CHECK_LEN) == VENTOLAIRE_CHECK_LEN);
+    HOLDS(out[VENTOLAIRE_CHECK_RULE] == 1 && out[VENTOLAIRE_CHECK_RECORD] == 0);
+    HOLDS(ventolaire_dup(&closed, 0, out, VENTOLAIRE_REPLY_LEN) == VENTOLAIRE_REPLY_LEN);
+    HOLDS(out[VENTOLAIRE_REPLY_ERRNO] == VENTOLAIRE_EBADF);
+    HOLDS(out[VENTOLAIRE_REPLY_DETAIL] == VENTOLAIRE_NO_DETAIL);
+    for (int i = 0; i < VENTOLAIRE_DESCRIPTORS; i++)
+        HOLDS(closed.slots[i] == 0);
 }
 
 static void hows(void)
@@ -46,6 +92,8 @@ static void hows(void)
 int main(void)
 {
     names();
+    room();
+    descriptors();
     hows();
     return failures != 0;
 }

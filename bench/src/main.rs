@@ -26,6 +26,7 @@ mod agree;
 #[cfg(feature = "proved")]
 mod calls;
 mod chart;
+mod descriptors;
 mod growth;
 mod hostile;
 mod linear;
@@ -34,6 +35,7 @@ mod plain;
 #[cfg(feature = "proved")]
 mod proved;
 mod side;
+mod slots;
 mod sweep;
 mod tables;
 #[cfg(test)]
@@ -56,8 +58,10 @@ bench list            the cases
 bench table           all cases: instructions and time per call
 bench growth          how instructions per call grow with the input
 bench sweep           instructions per call by the length of names and bodies
+bench descriptors     calls on descriptors: instructions and time per call, and their bars
 bench calls           a call from Rust, its table checked each time and once
-bench all FILE        table, growth and sweep, and a chart of the first two in FILE, as SVG
+bench all FILE        table, growth, sweep and descriptors, and a chart of the first two in FILE,
+                      as SVG
 bench run CASE plain|linear|proved CALLS
                       one case, that many times
 bench call TABLE resolve|table CALLS
@@ -101,6 +105,7 @@ fn main() -> ExitCode {
         ["table"] => table().map(drop),
         ["growth"] => growth::measure().map(drop),
         ["sweep"] => sweep::measure(),
+        ["descriptors"] => descriptors::measure(),
         #[cfg(feature = "proved")]
         ["calls"] => calls::measure(),
         #[cfg(feature = "proved")]
@@ -144,15 +149,23 @@ fn list() {
         println!("{:24} {}", format!("{}:LENGTH", sweep.name), sweep.about);
         println!("{:24} LENGTH from {first} to {last}", "");
     }
+    for (name, about) in descriptors::list() {
+        println!("{name:24} {about}");
+    }
 }
 
 /// One case, by the name that `bench list` gives it. Prints the sum of the
 /// answers, so that none of the calls can be left out.
 fn run(case: &str, side: &str, calls: &str) -> Result<(), Box<dyn Error>> {
+    let side = Side::named(side).ok_or_else(|| wrong(format!("no side {side} in this build")))?;
+    let calls = number_of_calls(calls)?;
+    if let Some(replied) = descriptors::run(case, side, calls) {
+        println!("{}", replied.map_err(|reply| format!("{case}: it replies {reply:?}"))?);
+        return Ok(());
+    }
     let input = tables::input(case).or_else(|| growth::input(case)).or_else(|| sweep::input(case));
     let input = input.ok_or_else(|| wrong(format!("no case {case}; `bench list` names them")))?;
-    let side = Side::named(side).ok_or_else(|| wrong(format!("no side {side} in this build")))?;
-    println!("{}", side.run(&input, number_of_calls(calls)?));
+    println!("{}", side.run(&input, calls));
     Ok(())
 }
 
@@ -177,7 +190,9 @@ fn all(file: &str) -> Result<(), Box<dyn Error>> {
     let chart = chart::draw(&ratios, geometric_mean(&ratios), &series);
     std::fs::write(file, chart).map_err(|error| format!("cannot write {file}: {error}"))?;
     println!();
-    sweep::measure()
+    sweep::measure()?;
+    println!();
+    descriptors::measure()
 }
 
 /// Measures all cases and prints them as a table; the ratios of proved to plain.

@@ -86,7 +86,7 @@ pub struct Refusal {
 }
 
 impl Refusal {
-    fn before_walk(errno: Errno) -> Self {
+    pub fn before_walk(errno: Errno) -> Self {
         Refusal { errno, detail: NO_DETAIL, components: 0, links: 0 }
     }
 }
@@ -101,6 +101,8 @@ pub enum Errno {
     EXDEV = 18,
     ENOTDIR = 20,
     EINVAL = 22,
+    EMFILE = 24,
+    ENOTTY = 25,
     ENAMETOOLONG = 36,
     ELOOP = 40,
     EUCLEAN = 117,
@@ -114,6 +116,21 @@ pub fn check(image: &[u8]) -> Result<(), Broken> {
     table.check_entries()?;
     table.check_mounts()?;
     table.check_magic_links()
+}
+
+/// The root of mount 0, in a table that [`check`] has accepted.
+pub fn root(image: &[u8]) -> u16 {
+    Table::open(image).mount(0).root
+}
+
+/// Whether a node is a directory, in a table that [`check`] has accepted.
+pub fn is_directory(image: &[u8], node: u64) -> bool {
+    u16::try_from(node).is_ok_and(|node| Table::open(image).is_directory(node))
+}
+
+/// The flags of an open_how that is not too short, whatever is wrong with it.
+pub fn flags(how: &[u8]) -> Option<u64> {
+    (how.len() >= HOW_LEN).then(|| u64_at(how, 0))
 }
 
 /// Rules 1 to 3; the error is the rule broken.

@@ -6,11 +6,18 @@
 //! else is `bindings/rust`: a walk's table is checked by `Table`, and answers have
 //! to be the same by it.
 
+use crate::descriptors::{self, Descriptors, Functions};
 use crate::plain;
+use crate::slots::{Reply, SLOTS};
 use crate::tables::Numbers;
 use crate::walk::{Accepted, UNWRITTEN};
+use data::sequence::Step;
 use ventolaire::{Found, Handle, Refusal, Table};
-use ventolaire_sys::{ventolaire_check, ventolaire_resolve_accepted};
+use ventolaire_sys::{
+    ventolaire_check, ventolaire_close, ventolaire_descriptors, ventolaire_dup, ventolaire_open,
+    ventolaire_open_accepted, ventolaire_resolve_accepted, ventolaire_set_mark, ventolaire_start,
+    ventolaire_start_accepted, Open,
+};
 
 pub fn check(image: &[u8]) -> Numbers {
     let mut out = [UNWRITTEN; 2];
@@ -53,4 +60,67 @@ fn numbers(answer: Result<Found, Refusal>) -> Numbers {
             [errno.number(), detail, 0, 0, components, links]
         }
     }
+}
+
+impl descriptors::Table for ventolaire_descriptors {
+    fn put_back(&mut self, before: &Self, slot: usize) {
+        self.slots[slot] = before.slots[slot];
+    }
+}
+
+/// Slots that no start leaves as they are.
+const UNSTARTED: ventolaire_descriptors = ventolaire_descriptors { slots: [UNWRITTEN; SLOTS] };
+
+fn functions(open: Open) -> Functions<ventolaire_descriptors> {
+    Functions {
+        resolve: ventolaire_resolve_accepted,
+        open,
+        dup: ventolaire_dup,
+        close: ventolaire_close,
+        set_mark: ventolaire_set_mark,
+    }
+}
+
+/// Descriptors over an image that the library accepts.
+pub fn descriptors(image: &[u8]) -> Descriptors<'_, ventolaire_descriptors> {
+    let table = table(image);
+    let image = table.image();
+    let mut slots = UNSTARTED;
+    // SAFETY: the library accepted the image, which is borrowed from now on; the slots are lent to
+    // be written.
+    unsafe {
+        ventolaire_start_accepted(image.as_ptr(), image.len(), &mut slots);
+        Descriptors::new(image, functions(ventolaire_open_accepted), slots)
+    }
+}
+
+/// Descriptors over any image, which each open checks, and the answer of their start.
+pub fn started(image: &[u8]) -> ([u64; 2], Descriptors<'_, ventolaire_descriptors>) {
+    let mut out = [UNWRITTEN; 2];
+    let mut slots = UNSTARTED;
+    // SAFETY: each pointer goes with the length of a slice that outlives the call, and the library
+    // writes to the slots and to `out` alone, whatever the image is.
+    unsafe {
+        let (image, out, len) = ((image.as_ptr(), image.len()), out.as_mut_ptr(), out.len());
+        ventolaire_start(image.0, image.1, &mut slots, out, len);
+    }
+    // SAFETY: the same.
+    (out, unsafe { Descriptors::new(image, functions(ventolaire_open), slots) })
+}
+
+/// A call on descriptors by `bindings/rust`.
+pub fn make(descriptors: &mut ventolaire::Descriptors, step: &Step) -> Reply {
+    let given = |descriptor| ([0, Refusal::NO_DETAIL, 0, 0, 0, 0], descriptor);
+    let reply = match step {
+        Step::Open(open) => {
+            let opened = descriptors.open_raw(open.number, open.mark, &open.path, &open.how);
+            opened.map(|opened| (numbers(Ok(opened.found)), opened.descriptor))
+        }
+        Step::Dup(number) => descriptors.duplicate(*number).map(given),
+        Step::Close(number) => descriptors.close(*number).map(|()| given(0)),
+        Step::SetMark(number) => descriptors.set_mark(*number).map(|()| given(0)),
+    };
+    let (answer, descriptor) = reply.unwrap_or_else(|refusal| (numbers(Err(refusal)), 0));
+    let [errno, detail, mount, node, components, links] = answer;
+    [errno, detail, mount, node, components, links, descriptor]
 }

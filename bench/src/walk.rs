@@ -69,7 +69,7 @@ impl<'a> Accepted<'a> {
 ///
 /// Each pointer goes with the length of a slice, the output's lent to be written.
 #[allow(clippy::too_many_arguments)] // as many as the library's has
-unsafe extern "C" fn plain_resolve(
+pub unsafe extern "C" fn plain_resolve(
     image: *const u8,
     image_len: usize,
     mount: u64,

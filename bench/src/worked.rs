@@ -1,24 +1,77 @@
 //! The list of worked cases (tests/cases), asked of every side.
 
-use crate::plain::Handle;
-use crate::side::Side;
+use crate::descriptors;
+use crate::plain::{self, Handle};
+#[cfg(feature = "proved")]
+use crate::proved;
+use crate::side::{checked, Side};
+use crate::slots::{Reply, Slots};
 use crate::tables::{Call, Input};
-use data::worked::{self, Worked};
+use data::sequence::Step;
+use data::worked::{self, Asked, Worked};
 
-impl From<&Worked> for Input {
-    fn from(case: &Worked) -> Input {
-        let mut expected = [0; 6];
-        expected[..case.expected.len()].copy_from_slice(&case.expected);
-        let call = match &case.call {
-            None => Call::Check,
-            Some(worked::Call { mount, node, mark, path, how }) => Call::Resolve {
-                handle: Handle { mount: *mount, node: *node, mark: *mark },
-                path: path.clone(),
-                how: how.clone(),
-            },
-        };
-        Input { image: case.image.clone(), call, expected }
+/// A table check or a call as an input, None for calls on descriptors.
+fn input(case: &Worked) -> Option<Input> {
+    let call = match &case.asked {
+        Asked::Check => Call::Check,
+        Asked::Call(worked::Call { mount, node, mark, path, how }) => Call::Resolve {
+            handle: Handle { mount: *mount, node: *node, mark: *mark },
+            path: path.clone(),
+            how: how.clone(),
+        },
+        Asked::Sequence(_) => return None,
+    };
+    let mut expected = [0; 6];
+    expected[..case.expected.len()].copy_from_slice(&case.expected);
+    Some(Input { image: case.image.clone(), call, expected })
+}
+
+/// The answers of a side to a case, by each way that it has; none if it takes no part.
+fn answers(side: Side, case: &Worked) -> Vec<Vec<u64>> {
+    let numbers = case.expected.len();
+    match (&case.asked, input(case)) {
+        (Asked::Sequence(steps), _) => replies(side, &case.image, steps),
+        (_, Some(input)) if side.takes_part(&input) => {
+            side.answers(&input).iter().map(|answer| answer[..numbers].to_vec()).collect()
+        }
+        _ => Vec::new(),
     }
+}
+
+/// The reply to the last of some calls on descriptors, or the answer of their start:
+/// with the table checked by each open and, where it is accepted, without that and,
+/// of the library, by `bindings/rust`.
+fn replies(side: Side, image: &[u8], steps: &[Step]) -> Vec<Vec<u64>> {
+    match side {
+        Side::Plain => {
+            let checked = &checked(plain::check(image))[..2];
+            let mut slots = Slots::start(image);
+            let mut replies = vec![last(checked, steps, |step| slots.make(image, step))];
+            if checked[0] == 0 {
+                let mut descriptors = descriptors::plain(image);
+                replies.push(last(&[0, 0], steps, |step| descriptors.make(step)));
+            }
+            replies
+        }
+        Side::Linear => Vec::new(),
+        #[cfg(feature = "proved")]
+        Side::Proved => {
+            let (checked, mut descriptors) = proved::started(image);
+            let mut replies = vec![last(&checked, steps, |step| descriptors.make(step))];
+            if checked[0] == 0 {
+                let mut descriptors = proved::descriptors(image);
+                replies.push(last(&[0, 0], steps, |step| descriptors.make(step)));
+                let mut descriptors = proved::table(image).descriptors();
+                replies.push(last(&[0, 0], steps, |step| proved::make(&mut descriptors, step)));
+            }
+            replies
+        }
+    }
+}
+
+/// The reply to the last of the steps, or what the start answered if there are none.
+fn last(start: &[u64], steps: &[Step], mut make: impl FnMut(&Step) -> Reply) -> Vec<u64> {
+    steps.iter().fold(start.to_vec(), |_, step| make(step).to_vec())
 }
 
 /// How many answers of all sides are those of the list, and how many are not;
@@ -26,16 +79,15 @@ impl From<&Worked> for Input {
 pub fn compare(cases: &[Worked]) -> (usize, usize) {
     let (mut passed, mut failed) = (0, 0);
     for case in cases {
-        let input = Input::from(case);
-        for side in Side::all().filter(|side| side.takes_part(&input)) {
-            for answer in side.answers(&input) {
-                if answer == input.expected {
+        for side in Side::all() {
+            for answer in answers(side, case) {
+                if answer == case.expected {
                     passed += 1;
                     continue;
                 }
                 failed += 1;
                 println!("{}: {}", case.name, side.name());
-                println!("  expected {:?}", input.expected);
+                println!("  expected {:?}", case.expected);
                 println!("  got      {answer:?}");
                 println!("  replay {case}");
             }

@@ -28,54 +28,72 @@ impl From<Explained> for Answer {
 impl Answer {
     pub fn json(&self) -> Object {
         match self.result {
-            Ok(found) => Object::new()
-                .with("found", true)
-                .place("place", found.place)
-                .with("components", found.components)
-                .with("links", found.links),
-            Err(refusal) => Object::new()
-                .with("found", false)
-                .text("error", refusal.errno.name())
-                .with("errno", refusal.errno.number())
-                .and(self.detail(refusal))
-                .with("components", refusal.components)
-                .with("links", refusal.links),
-        }
-    }
-
-    /// What a refusal has besides its error and counts.
-    fn detail(&self, refusal: Refusal) -> Object {
-        let bit = |field, bit| {
-            let bit = Object::new().text("field", field).with("bit", bit);
-            Object::new().with("unknown_bit", bit)
-        };
-        match (self.broken, refusal.unknown_bit()) {
-            (Some(broken), _) => Object::new().with("broken", broken.json()),
-            (None, Some(UnknownBit::Flags(number))) => bit("flags", number),
-            (None, Some(UnknownBit::Resolve(number))) => bit("resolve", number),
-            (None, _) => Object::new(),
+            Ok(found) => Object::new().with("found", true).and(found_json(found)),
+            Err(refusal) => {
+                let broken = self.broken.map(|broken| Object::new().with("broken", broken.json()));
+                let more = broken.unwrap_or_default();
+                Object::new().with("found", false).and(refusal_json(refusal, more))
+            }
         }
     }
 }
 
 impl fmt::Display for Answer {
     fn fmt(&self, f: &mut fmt::Formatter) -> fmt::Result {
-        let (components, links) = match self.result {
-            Ok(found) => {
-                f.write_str(&place::text(found.place))?;
-                (found.components, found.links)
-            }
-            Err(refusal) => {
-                write!(f, "{}", refusal.errno)?;
-                match (self.broken, refusal.unknown_bit()) {
-                    (Some(broken), _) => write!(f, ", {broken}")?,
-                    (None, Some(bit)) => write!(f, ", {bit}")?,
-                    (None, None) => {}
-                }
-                (refusal.components, refusal.links)
-            }
-        };
-        let s = |count| if count == 1 { "" } else { "s" };
-        write!(f, "; {components} component{}, {links} link{}", s(components), s(links))
+        match self.result {
+            Ok(found) => write_found(f, found),
+            Err(refusal) => write_refusal(f, refusal, self.broken),
+        }
     }
+}
+
+/// The members of what was found.
+pub fn found_json(found: Found) -> Object {
+    let place = Object::new().place("place", found.place);
+    place.with("components", found.components).with("links", found.links)
+}
+
+/// The members of a refusal, with more that is known of it.
+pub fn refusal_json(refusal: Refusal, more: Object) -> Object {
+    let bit = |field, bit| {
+        let bit = Object::new().text("field", field).with("bit", bit);
+        Object::new().with("unknown_bit", bit)
+    };
+    let unknown_bit = match refusal.unknown_bit() {
+        Some(UnknownBit::Flags(number)) => bit("flags", number),
+        Some(UnknownBit::Resolve(number)) => bit("resolve", number),
+        _ => Object::new(),
+    };
+    Object::new()
+        .text("error", refusal.errno.name())
+        .with("errno", refusal.errno.number())
+        .and(more)
+        .and(unknown_bit)
+        .with("components", refusal.components)
+        .with("links", refusal.links)
+}
+
+pub fn write_found(f: &mut fmt::Formatter, found: Found) -> fmt::Result {
+    f.write_str(&place::text(found.place))?;
+    write_counts(f, found.components, found.links)
+}
+
+/// Writes a refusal, with why it was given if that is known.
+pub fn write_refusal(
+    f: &mut fmt::Formatter,
+    refusal: Refusal,
+    why: Option<impl fmt::Display>,
+) -> fmt::Result {
+    write!(f, "{}", refusal.errno)?;
+    match (why, refusal.unknown_bit()) {
+        (Some(why), _) => write!(f, ", {why}")?,
+        (None, Some(bit)) => write!(f, ", {bit}")?,
+        (None, None) => {}
+    }
+    write_counts(f, refusal.components, refusal.links)
+}
+
+fn write_counts(f: &mut fmt::Formatter, components: u64, links: u64) -> fmt::Result {
+    let s = |count| if count == 1 { "" } else { "s" };
+    write!(f, "; {components} component{}, {links} link{}", s(components), s(links))
 }

@@ -11,6 +11,7 @@ pub enum Command {
     Check { image: OsString, json: bool },
     Show { image: OsString, form: Form },
     Resolve(Query),
+    Script { image: OsString, calls: OsString, json: bool },
     Demo { file: Option<OsString>, json: bool },
 }
 
@@ -48,6 +49,7 @@ const COMMANDS: &[(&str, &[&str])] = &[
         "resolve",
         &["--handle", "--mark", "--flag", "--resolve", "--how", "--paths-from", "--null", "--json"],
     ),
+    ("script", &["--json"]),
     ("demo", &["--json"]),
 ];
 
@@ -66,13 +68,12 @@ pub fn read(mut arguments: impl Iterator<Item = OsString>) -> Result<Command, St
     if parts.has("--help") {
         return Ok(Command::Help);
     }
-    if let Some((option, _)) = parts.options.iter().find(|(name, _)| !options.contains(name)) {
-        return Err(format!("{command} has no option {option}"));
-    }
+    parts.allow(command, options)?;
     let json = parts.has("--json");
     match command {
         "check" => Ok(Command::Check { image: only(command, &parts)?, json }),
         "show" => Ok(Command::Show { image: only(command, &parts)?, form: form(&parts)? }),
+        "script" => script(&parts),
         "demo" => Ok(Command::Demo { file: demo_file(&parts)?, json }),
         _ => query(&parts).map(Command::Resolve),
     }
@@ -94,6 +95,21 @@ fn form(parts: &Parts) -> Result<Form, String> {
         (_, true) => Form::Json,
         _ => Form::Text,
     })
+}
+
+fn script(parts: &Parts) -> Result<Command, String> {
+    let (image, calls) = match &parts.operands[..] {
+        [] => return Err("script wants IMAGE".into()),
+        [image] => (image.clone(), "-".into()),
+        [image, calls] => (image.clone(), calls.clone()),
+        [_, _, surplus, ..] => {
+            return Err(format!("script has no use for {}", escape::name(surplus)));
+        }
+    };
+    if input::is_stdin(&image) && input::is_stdin(&calls) {
+        return Err("IMAGE and the calls cannot both be standard input".into());
+    }
+    Ok(Command::Script { image, calls, json: parts.has("--json") })
 }
 
 fn demo_file(parts: &Parts) -> Result<Option<OsString>, String> {
@@ -142,7 +158,8 @@ fn source(image: &OsStr, paths: &[OsString], parts: &Parts) -> Result<Source, St
     }
 }
 
-fn how(parts: &Parts) -> Result<Vec<u8>, String> {
+/// The bytes of the open_how that options ask for.
+pub fn how(parts: &Parts) -> Result<Vec<u8>, String> {
     parts.exclude("--how", "--flag")?;
     parts.exclude("--how", "--resolve")?;
     if let Some(given) = parts.value("--how") {

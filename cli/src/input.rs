@@ -1,4 +1,4 @@
-//! Images and lists of paths, from files or standard input.
+//! Images, lists of paths and scripts, from files or standard input.
 
 use crate::escape;
 use std::ffi::OsStr;
@@ -11,9 +11,10 @@ use std::time::{Duration, Instant};
 /// How long an image may be.
 const MAX_IMAGE: u64 = 65_536;
 
-/// How long a path in a list may be: more than any path that can be found, so
-/// that long ones are refused by name, and less than fills the memory.
-const MAX_PATH: usize = 65_536;
+/// How long a path in a list or a line of a script may be: more than any path that
+/// can be found, each byte of it escaped, so that long ones are refused by name, and
+/// less than fills the memory.
+const MAX_PART: usize = 65_536;
 
 /// How long a FIFO is waited for that nobody writes to.
 const PATIENCE: Duration = Duration::from_secs(1);
@@ -32,52 +33,68 @@ pub fn image(file: &OsStr) -> Result<Vec<u8>, String> {
     Ok(bytes)
 }
 
-/// A list of paths.
-pub struct Paths<'a> {
+/// A file of which one part is read after the other: a list of paths, a script.
+pub struct Parted<'a> {
     file: &'a OsStr,
     from: BufReader<Box<dyn Read>>,
-    /// The byte that ends a path.
+    /// What a part is.
+    what: &'static str,
+    /// The byte that ends one.
     end: u8,
+    /// How many were read.
     number: u64,
 }
 
-impl<'a> Paths<'a> {
-    pub fn open(file: &'a OsStr, end: u8) -> Result<Self, String> {
+impl<'a> Parted<'a> {
+    pub fn open(file: &'a OsStr, what: &'static str, end: u8) -> Result<Self, String> {
         let opened = open(file).map_err(|error| unreadable(file, &error))?;
-        Ok(Paths { file, from: BufReader::new(opened), end, number: 0 })
+        Ok(Parted { file, from: BufReader::new(opened), what, end, number: 0 })
     }
 
-    /// The next path, if there is one.
+    /// The next part, if there is one.
     pub fn next(&mut self) -> Result<Option<Vec<u8>>, String> {
-        let mut path = Vec::new();
+        let mut part = Vec::new();
         // Room for the byte that ends it.
-        let mut room = self.from.by_ref().take(MAX_PATH as u64 + 1);
-        let read = room.read_until(self.end, &mut path);
+        let mut room = self.from.by_ref().take(MAX_PART as u64 + 1);
+        let read = room.read_until(self.end, &mut part);
         if read.map_err(|error| unreadable(self.file, &error))? == 0 {
             return Ok(None);
         }
         self.number += 1;
-        if path.last() == Some(&self.end) {
-            path.pop();
+        if part.last() == Some(&self.end) {
+            part.pop();
         }
-        if path.len() > MAX_PATH {
-            let shown = escape::name(self.file);
-            return Err(format!("path {} in {shown} has over 65,536 bytes", self.number));
+        match part.len() > MAX_PART {
+            true => Err(format!("{} has over 65,536 bytes", self.last())),
+            false => Ok(Some(part)),
         }
-        Ok(Some(path))
     }
 
-    /// Whether the next path may have to be waited for.
+    /// Which part was read last, to stand in a message.
+    pub fn last(&self) -> String {
+        format!("{} {} in {}", self.what, self.number, shown(self.file))
+    }
+
+    /// The number of that part; the first is 1.
+    pub fn number(&self) -> u64 {
+        self.number
+    }
+
+    /// Whether the next part may have to be waited for.
     pub fn waits(&self) -> bool {
-        self.from.buffer().is_empty()
+        !self.from.buffer().contains(&self.end)
+    }
+}
+
+fn shown(file: &OsStr) -> String {
+    match is_stdin(file) {
+        true => "standard input".into(),
+        false => escape::name(file),
     }
 }
 
 fn unreadable(file: &OsStr, error: &io::Error) -> String {
-    match is_stdin(file) {
-        true => format!("cannot read standard input: {error}"),
-        false => format!("cannot read {}: {error}", escape::name(file)),
-    }
+    format!("cannot read {}: {error}", shown(file))
 }
 
 fn open(file: &OsStr) -> io::Result<Box<dyn Read>> {

@@ -2,6 +2,7 @@
 
 mod answer;
 mod arguments;
+mod call;
 mod demo;
 mod dot;
 mod escape;
@@ -12,14 +13,16 @@ mod list;
 mod options;
 mod output;
 mod place;
+mod reply;
 mod resolve;
+mod script;
 mod show;
+mod words;
 
 use arguments::{Command, Form};
 use explain::Explained;
 use output::{Failure, Output};
 use std::ffi::OsStr;
-use std::io::{self, Write};
 use std::process::ExitCode;
 use ventolaire::Table;
 
@@ -34,8 +37,7 @@ fn main() -> ExitCode {
         // With a closed pipe, whoever reads has had enough.
         Ok(()) | Err(Failure::Closed) => ExitCode::from(u8::from(output.refused)),
         Err(Failure::Message(message)) => {
-            // Nobody is left to be told when this fails.
-            let _ = writeln!(io::stderr(), "ventolaire: {message}");
+            output::tell(message);
             ExitCode::from(2)
         }
     }
@@ -48,6 +50,7 @@ fn run(command: Command, output: &mut Output) -> Result<(), Failure> {
         Command::Check { image, json } => check(&image, json, output),
         Command::Show { image, form } => show(&image, form, output),
         Command::Resolve(query) => resolve::run(&query, output),
+        Command::Script { image, calls, json } => script::run(&image, &calls, json, output),
         Command::Demo { file, json } => demo::run(file.as_deref(), json, output),
     }
 }

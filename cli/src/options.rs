@@ -67,6 +67,14 @@ impl Parts {
         self.options.iter().filter(move |(name, _)| *name == option).map(|(_, value)| value)
     }
 
+    /// Refuses options that a command does not have.
+    pub fn allow(&self, command: &str, options: &[&str]) -> Result<(), String> {
+        match self.options.iter().find(|(name, _)| !options.contains(name)) {
+            Some((option, _)) => Err(format!("{command} has no option {option}")),
+            None => Ok(()),
+        }
+    }
+
     /// Refuses two options together.
     pub fn exclude(&self, one: &str, other: &str) -> Result<(), String> {
         match self.has(one) && self.has(other) {

@@ -38,6 +38,17 @@ impl Output {
     pub fn flush(&mut self) -> Result<(), Failure> {
         self.to.flush().map_err(failure)
     }
+
+    /// An error, behind the answers that were given before it.
+    pub fn then_fail<T>(&mut self, error: String) -> Result<T, Failure> {
+        self.flush()?;
+        Err(error.into())
+    }
+}
+
+/// One line on standard error. Nobody is left to be told when this fails.
+pub fn tell(message: impl Display) {
+    let _ = writeln!(io::stderr(), "ventolaire: {message}");
 }
 
 fn failure(error: io::Error) -> Failure {

@@ -4,7 +4,7 @@ use crate::answer::Answer;
 use crate::arguments::{Query, Source};
 use crate::escape;
 use crate::explain::Explained;
-use crate::input::{self, Paths};
+use crate::input::{self, Parted};
 use crate::json::Object;
 use crate::output::{Failure, Output};
 use ventolaire::{Handle, Table};
@@ -24,8 +24,8 @@ pub fn run(query: &Query, output: &mut Output) -> Result<(), Failure> {
             }
         }
         Source::List { file, end } => {
-            let mut paths = Paths::open(file, *end)?;
-            while let Some(path) = paths.next().or_else(|error| after(error, output))? {
+            let mut paths = Parted::open(file, "path", *end)?;
+            while let Some(path) = paths.next().or_else(|error| output.then_fail(error))? {
                 print(&path, answer(&path), true, query.json, output)?;
                 if paths.waits() {
                     output.flush()?;
@@ -39,12 +39,6 @@ pub fn run(query: &Query, output: &mut Output) -> Result<(), Failure> {
 fn handle(query: &Query, table: &Table) -> Handle {
     let handle = query.handle.map_or(table.root(), Handle::from);
     Handle { mark: query.mark, ..handle }
-}
-
-/// An error behind the answers that were given before it.
-fn after<T>(error: String, output: &mut Output) -> Result<T, Failure> {
-    output.flush()?;
-    Err(error.into())
 }
 
 fn print(

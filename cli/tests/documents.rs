@@ -2,14 +2,15 @@
 
 mod common;
 
-use common::answer;
+use common::{answer, answer_to, Named};
 use std::collections::BTreeSet;
 use std::path::{Path, PathBuf};
 use std::process::Command;
+use ventolaire::bench_tree::IMAGE;
 
 const PAGE: &str = include_str!("../../docs/man/ventolaire.1");
 const COMPLETION: &str = include_str!("../../completions/ventolaire.bash");
-const COMMANDS: [&str; 4] = ["check", "show", "resolve", "demo"];
+const COMMANDS: [&str; 5] = ["check", "show", "resolve", "script", "demo"];
 
 fn file(name: &str) -> PathBuf {
     Path::new(env!("CARGO_MANIFEST_DIR")).join("..").join(name)
@@ -55,8 +56,8 @@ fn man_page_and_completion_name_every_option() {
 fn the_man_page_has_the_version_and_every_section() {
     let title = format!("\"ventolaire {}\"", env!("CARGO_PKG_VERSION"));
     assert!(PAGE.lines().next().unwrap().contains(&title));
-    for section in ["NAME", "SYNOPSIS", "OPTIONS", "JSON", "\"EXIT STATUS\"", "EXAMPLES"] {
-        let plain = format!(".SH {}\n", section.trim_matches('"'));
+    for section in ["NAME", "SYNOPSIS", "OPTIONS", "SCRIPTS", "JSON", "EXIT STATUS", "EXAMPLES"] {
+        let plain = format!(".SH {section}\n");
         assert!(PAGE.contains(&plain), "{section}");
     }
 }
@@ -70,6 +71,18 @@ fn the_man_page_is_set_without_a_warning() {
         assert_eq!(String::from_utf8_lossy(&output.stderr), "");
         assert!(output.status.success());
     }
+}
+
+/// The man page's script is answered as it says there.
+#[test]
+fn the_man_pages_script_is_answered_so() {
+    let page = PAGE.replace("\\-", "-");
+    let (_, examples) = page.split_once("\nA script, and what\n").unwrap();
+    let mut shown = examples.split("\n.EX\n").skip(1).map(|part| part.split(".EE").next().unwrap());
+    let (script, answers) = (shown.next().unwrap(), shown.next().unwrap());
+    let image = Named::file(IMAGE);
+    let answered = answer_to(script.as_bytes(), ["script", image.path()]);
+    assert_eq!(answered, (1, answers.into()));
 }
 
 /// What bash offers behind these words.
@@ -91,7 +104,7 @@ fn the_completion_completes() {
         return;
     }
     let rows: &[(&[&str], &[&str])] = &[
-        (&["s"], &["show"]),
+        (&["s"], &["show", "script"]),
         (&["--v"], &["--version"]),
         (&["show", "Cargo.t"], &["Cargo.toml"]),
         (&["show", "x", "--"], &["--dot", "--json", "--help"]),
@@ -105,6 +118,8 @@ fn the_completion_completes() {
         ),
         (&["resolve", "x", "--paths-from", "Cargo.t"], &["Cargo.toml"]),
         (&["resolve", "x", "--handle", ""], &[]),
+        (&["script", "x", "Cargo.t"], &["Cargo.toml"]),
+        (&["script", "x", "--j"], &["--json"]),
         (&["nothing", "x"], &[]),
     ];
     for (words, offered) in rows {

@@ -16,12 +16,17 @@ use ventolaire::bench_tree::IMAGE;
 fn unreadable(file: &str, why: &str) {
     let message = format!("cannot read {file}: {why}");
     for more in [&[][..], &["--json"]] {
-        for arguments in [&["check", file][..], &["show", file], &["resolve", file, "a", "b"]] {
+        let image = Named::file(IMAGE);
+        for arguments in [
+            &["check", file][..],
+            &["show", file],
+            &["resolve", file, "a", "b"],
+            &["resolve", image.path(), "--paths-from", file],
+            &["script", file],
+            &["script", image.path(), file],
+        ] {
             assert_eq!(error(arguments.iter().chain(more)), message);
         }
-        let image = Named::file(IMAGE);
-        let listed = ["resolve", image.path(), "--paths-from", file];
-        assert_eq!(error(listed.iter().chain(more)), message);
     }
     assert_eq!(error(["show", "--dot", file]), message);
 }
@@ -34,6 +39,13 @@ fn refused(file: &str, why: &str) {
     for arguments in [&["show", file][..], &["show", file, "--dot"], &["show", file, "--json"]] {
         assert_eq!(error(arguments), format!("cannot show {file}: {why}"));
     }
+    let calls = Named::file(b"close 0\n");
+    let output = program().args(["script", file, calls.path()]).output().unwrap();
+    assert_eq!(output.status.code(), Some(1));
+    let line = "EBADF (9), descriptor 0 is not open; 0 components, 0 links\n";
+    assert_eq!(String::from_utf8(output.stdout).unwrap(), line);
+    let line = format!("ventolaire: no descriptor is open, the image is refused: {why}\n");
+    assert_eq!(String::from_utf8(output.stderr).unwrap(), line);
 }
 
 #[test]
@@ -79,6 +91,10 @@ fn files_that_are_too_long() {
         error(["resolve", image.path(), "--paths-from", long.path()]),
         format!("path 1 in {} has over 65,536 bytes", long.path())
     );
+    assert_eq!(
+        error(["script", image.path(), long.path()]),
+        format!("line 1 in {} has over 65,536 bytes", long.path())
+    );
 }
 
 /// Runs where permissions bite: not as root.
@@ -114,6 +130,7 @@ fn a_fifo_without_a_writer() {
     assert_eq!(error(["resolve", fifo.path(), "a"]), message);
     let image = Named::file(IMAGE);
     assert_eq!(error(["resolve", image.path(), "--paths-from", fifo.path()]), message);
+    assert_eq!(error(["script", image.path(), fifo.path()]), message);
     let there = format!("cannot write {}: File exists (os error 17)", fifo.path());
     assert_eq!(error(["demo", fifo.path()]), there);
 }
@@ -155,6 +172,7 @@ fn a_command_in_place_of_a_file() {
 fn a_reader_that_leaves_early() {
     let image = Named::file(IMAGE);
     let endless = ["resolve", image.path(), "--paths-from", "/dev/zero", "-0"];
+    let script = Named::file(b"open 0 lab\n");
     let rows: &[(&[&str], i32)] = &[
         (&["demo"], 0),
         (&["--help"], 0),
@@ -162,6 +180,7 @@ fn a_reader_that_leaves_early() {
         (&["show", image.path()], 0),
         (&["resolve", image.path(), "lab", "/"], 0),
         (&["resolve", image.path(), "no", "no"], 1),
+        (&["script", image.path(), script.path()], 0),
         (&endless, 1),
     ];
     for (arguments, status) in rows {
@@ -181,6 +200,7 @@ fn a_reader_that_leaves_early() {
 #[test]
 fn a_full_disk() {
     let image = Named::file(IMAGE);
+    let script = Named::file(b"open 0 lab\n");
     let rows: &[&[&str]] = &[
         &["demo"],
         &["demo", "--json"],
@@ -189,6 +209,7 @@ fn a_full_disk() {
         &["show", image.path()],
         &["resolve", image.path(), "lab", "/"],
         &["resolve", image.path(), "--paths-from", "/dev/zero", "-0"],
+        &["script", image.path(), script.path()],
     ];
     for arguments in rows {
         let full = File::options().write(true).open("/dev/full").unwrap();

@@ -11,7 +11,7 @@ fn help_and_version_are_given() {
     let (status, help) = answer(["--help"]);
     assert_eq!(status, 0);
     assert!(help.contains("USAGE") && help.contains("EXIT STATUS") && help.contains("(default: "));
-    for arguments in [&["-h"][..], &["help"], &["resolve", "--help"], &["check", "x", "-h"]] {
+    for arguments in [&["-h"][..], &["help"], &["resolve", "--help"], &["script", "-h"]] {
         assert_eq!(answer(arguments), (0, help.clone()));
     }
     for name in names() {
@@ -60,6 +60,20 @@ fn wrong_usage_is_told_in_one_line() {
             &["resolve", "a", "b", "--how", "00", "--flag", "PATH"],
             "--how and --flag exclude each other",
         ),
+    ];
+    for (arguments, text) in rows {
+        assert_eq!(error(*arguments), *text, "{arguments:?}");
+    }
+}
+
+#[test]
+fn wrong_usage_of_script_is_told_in_one_line() {
+    let rows: &[(&[&str], &str)] = &[
+        (&["script"], "script wants IMAGE"),
+        (&["script", "a", "b", "c"], "script has no use for c"),
+        (&["script", "a", "--mark"], "script has no option --mark"),
+        (&["script", "-"], "IMAGE and the calls cannot both be standard input"),
+        (&["script", "-", "-"], "IMAGE and the calls cannot both be standard input"),
     ];
     for (arguments, text) in rows {
         assert_eq!(error(*arguments), *text, "{arguments:?}");

@@ -1,15 +1,19 @@
 """The list of cases, and the words that it is written in.
 
 A group has a title, `says` quotes the wording of the rules that the cases after it follow from, with their numbers in
-docs/RULES.md, and a case is a call or a table check with the answer that these give. No answer is computed: each is written down."""
+docs/RULES.md, and a case is a call or a table check with the answer that these give. No answer is computed: each is written down.
+
+Descriptors are used in sequences: `start` makes them, and each `open_path`, `dup`, `close` and `set_mark` after it, up to the next `start`,
+is a case that finds them as the calls before have left them. A sequence's cases have its name and their number in it."""
 
 from image import number
 
 EUCLEAN, E2BIG, EINVAL, ENAMETOOLONG, ENOENT = 117, 7, 22, 36, 2
 EBADF, ENOTDIR, ELOOP, EXDEV = 9, 20, 40, 18
+EMFILE, ENOTTY = 24, 25
 ERRNOS = {
     117: "EUCLEAN", 7: "E2BIG", 22: "EINVAL", 36: "ENAMETOOLONG", 2: "ENOENT",
-    9: "EBADF", 20: "ENOTDIR", 40: "ELOOP", 18: "EXDEV",
+    9: "EBADF", 20: "ENOTDIR", 40: "ELOOP", 18: "EXDEV", 24: "EMFILE", 25: "ENOTTY",
 }
 
 O_DIRECTORY, O_NOFOLLOW, O_PATH, O_CLOEXEC = 0x10000, 0x20000, 0x200000, 0x80000
@@ -18,6 +22,9 @@ FLAGS = {0x10000: "O_DIRECTORY", 0x20000: "O_NOFOLLOW", 0x200000: "O_PATH", 0x80
 RESOLVE = {1: "NO_XDEV", 2: "NO_MAGICLINKS", 4: "NO_SYMLINKS", 8: "BENEATH", 16: "IN_ROOT"}
 
 LAB = (0, 1)
+
+# The kinds of records.
+CHECK, CALL, START, OPEN, DUP, CLOSE, SET_MARK = range(1, 8)
 
 
 def found(mount, node, components, links):
@@ -28,6 +35,12 @@ def refused(errno, components=0, links=0, detail=255):
     return (errno, detail, 0, 0, components, links)
 
 
+def given(descriptor, mount=0, node=0, components=0, links=0):
+    """What an open answers that gives a descriptor; a dup tells no place and no counts."""
+    return found(mount, node, components, links) + (descriptor,)
+
+
+DONE = found(0, 0, 0, 0)
 ACCEPTED = (0, 0)
 
 
@@ -43,8 +56,8 @@ def open_how(flags=0, resolve=0, mode=0, tail=b""):
 class Case:
     def __init__(self, name, image, answer, shown, family):
         self.name, self.image, self.answer = name, image, answer
-        self.shown, self.family = shown, family
-        self.kind, self.path, self.how = 1, b"", b""
+        self.shown, self.family, self.sequence = shown, family, None
+        self.kind, self.path, self.how = CHECK, b"", b""
         self.mount, self.node, self.mark = 0, 0, False
 
 
@@ -107,7 +120,7 @@ def call(name, path, answer, at=LAB, mark=False, flags=0, resolve=0, how=None, i
         words.append(f"open_how of {len(how)} bytes")
     words = ", ".join(words).replace(":,", ":", 1)
     case = Case(name, _now["image"] if image is None else image, answer, words, family)
-    case.kind, case.path = 2, path
+    case.kind, case.path = CALL, path
     case.how = open_how(flags, resolve) if how is None else how
     case.mount, case.node, case.mark = at[0], at[1], mark
     _add(case)
@@ -117,13 +130,61 @@ def check(name, image, answer, shown, family=None):
     _add(Case(name, image, answer, shown, family))
 
 
+def start(name, answer=ACCEPTED, image=None, shown=None):
+    """Begins a sequence of calls on descriptors, over a table that may be refused."""
+    _now["sequence"], _now["made"] = name, 0
+    _now["started"] = _now["image"] if image is None else image
+    case = Case(name, _now["started"], answer, f"start over {shown or '`' + _now['over'] + '`'}", None)
+    case.kind, case.sequence = START, name
+    _add(case)
+
+
+def _next(kind, number, answer, words, family):
+    """The next call of the sequence. The number stands where a handle's mount does."""
+    _now["made"] += 1
+    answer += (0,) * (7 - len(answer))
+    case = Case(f"{_now['sequence']}-{_now['made']}", _now["started"], answer, words, family)
+    case.kind, case.mount, case.sequence = kind, number, _now["sequence"]
+    _add(case)
+    return case
+
+
+def _shown(number):
+    return {2**32: "2^32", 2**32 + 1: "2^32 + 1", 2**32 + 2: "2^32 + 2", 2**64 - 1: "2^64 - 1"}.get(number, f"{number}")
+
+
+def open_path(number, path, answer, mark=False, flags=0, resolve=0, how=None, shown=None, family=None):
+    path = path if isinstance(path, bytes) else path.encode()
+    words = [f"open {_shown(number)}: {shown or _text(path)}"] + (["mark asked"] if mark else [])
+    words += [word.replace("0x", "flags 0x") for word in _bits(FLAGS, flags)]
+    words += [word.replace("0x", "resolve 0x") for word in _bits(RESOLVE, resolve)]
+    case = _next(OPEN, number, answer, ", ".join(words), family)
+    case.path, case.mark = path, mark
+    case.how = open_how(flags, resolve) if how is None else how
+
+
+def dup(number, answer, family=None):
+    _next(DUP, number, answer, f"dup {_shown(number)}", family)
+
+
+def close(number, answer=DONE, family=None):
+    _next(CLOSE, number, answer, f"close {_shown(number)}", family)
+
+
+def set_mark(number, answer=DONE, family=None):
+    _next(SET_MARK, number, answer, f"set the mark on {_shown(number)}", family)
+
+
 def in_words(case):
-    if case.kind == 1:
+    if case.kind in (CHECK, START):
         rule, record = case.answer
         return "accepted" if rule == 0 else f"rule {rule}, record {record}"
-    errno, detail, mount, node, components, links = case.answer
+    errno, detail, mount, node, components, links = case.answer[:6]
     counts = f"; {components},{links}"
-    if errno == 0:
-        return f"({mount},{node}){counts}"
-    bit = f" {detail}" if detail != 255 else ""
-    return ERRNOS[errno] + bit + counts
+    if errno != 0:
+        bit = f" {detail}" if detail != 255 else ""
+        return ERRNOS[errno] + bit + counts
+    place = f"({mount},{node}){counts}"
+    words = {CALL: place, CLOSE: "done", SET_MARK: "done"}
+    words |= {OPEN: f"{case.answer[-1]}: {place}", DUP: f"{case.answer[-1]}"}
+    return words[case.kind]

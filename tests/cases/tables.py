@@ -284,7 +284,7 @@ check("rule-2-zero-high", counts(SMALLEST, zero=0x8000), broken(2), "the zero fi
 
 says("4.3", "3. N 1 to 4,096, M 1 to 256, E 0 to 4,096; total length = 20 + 12N + 8M + 8E + T = image length.")
 check("rule-3-no-node", header(0, 1, 0, 0, 28) + bytes(8), broken(3), "N 0")
-check("rule-3-4096-nodes", of_nodes(4096), ACCEPTED, "N 4,096")
+check("rule-3-4096-nodes", trees.most(), ACCEPTED, "`most`: N 4,096")
 check("rule-3-4097-nodes", of_nodes(4097), broken(3), "N 4,097")
 check("rule-3-no-mount", header(1, 0, 0, 0, 32) + SMALLEST[20:32], broken(3), "M 0")
 check("rule-3-256-mounts", of_mounts(256), ACCEPTED, "M 256")

@@ -234,3 +234,29 @@ def narrow():
     t.magic(d, "m", (1, 5))
     t.top()
     return t.mount(0).mount(5, 0, 1).image()
+
+
+def inner():
+    """Mount 0's root is not node 0 and not a top. File 0 "f" in 2; directories 1 top, 2 "d" in 1, 3 "e" in 2. Mount 0 has root 2."""
+    t = Tree()
+    f = t.file()
+    top = t.top()
+    d = t.directory(top, "d")
+    t.directory(d, "e")
+    t.name(d, "f", f)
+    return t.mount(d).image()
+
+
+def most():
+    """4,096 nodes and 256 mounts. Directories 0 top, 1 to 255 in 0 without names, 4,095 "z" in 0; magic 256 "m" in 0 to (255,4095); files 257
+    to 4,094 without names. Mounts 1 to 255 have root 0, each on the directory of its number in mount 0."""
+    t = Tree()
+    top = t.top()
+    t.mount(top)
+    for _ in range(255):
+        t.mount(top, 0, t.directory(top))
+    t.magic(top, "m", (255, 4095))
+    for _ in range(257, 4095):
+        t.file()
+    t.directory(top, "z")
+    return t.image()

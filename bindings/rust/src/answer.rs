@@ -11,6 +11,14 @@ pub(crate) fn of(numbers: [u64; 6]) -> Result<Found, Refusal> {
     }
 }
 
+/// The reply of the seven numbers that the library writes to a call on descriptors. What a call
+/// does not find or give is 0 in it.
+pub(crate) fn reply(numbers: [u64; 7]) -> Result<Opened, Refusal> {
+    let [errno, detail, mount, node, components, links, descriptor] = numbers;
+    let found = of([errno, detail, mount, node, components, links])?;
+    Ok(Opened { descriptor, found })
+}
+
 /// What a path leads to.
 ///
 /// ```
@@ -40,7 +48,34 @@ impl fmt::Display for Found {
     }
 }
 
-/// Why a path leads nowhere, and how far it led.
+/// What [`Descriptors::open`](crate::Descriptors::open) gives: the descriptor, and what its path
+/// led to.
+///
+/// ```
+/// use ventolaire::{bench_tree, OpenHow, Table};
+///
+/// let mut descriptors = Table::new(bench_tree::IMAGE)?.descriptors();
+/// let opened = descriptors.open(0, "lab/cal", OpenHow::new())?;
+/// assert_eq!((opened.descriptor, opened.found.place.node), (1, 2));
+/// assert_eq!(opened.to_string(), "1 = (0,2); 2 components, 0 links");
+/// # Ok::<(), Box<dyn std::error::Error>>(())
+/// ```
+#[derive(Clone, Copy, Debug, PartialEq, Eq, Hash)]
+#[non_exhaustive]
+pub struct Opened {
+    /// The number given: the lowest that was free.
+    pub descriptor: u64,
+    /// The place that it is open on, and the way there.
+    pub found: Found,
+}
+
+impl fmt::Display for Opened {
+    fn fmt(&self, f: &mut fmt::Formatter) -> fmt::Result {
+        write!(f, "{} = {}", self.descriptor, self.found)
+    }
+}
+
+/// Why a path leads nowhere, and how far it led; or why another call is refused.
 ///
 /// As a `std::io::Error` it is the one of its errno's number, Linux's whatever the
 /// host is; what else it says is lost.
@@ -115,11 +150,24 @@ impl fmt::Display for Refusal {
 
 impl Error for Refusal {}
 
+/// The refusal with which a call ends before any walk: no detail, and both counts 0.
+///
+/// ```
+/// use ventolaire::{Errno, Refusal};
+///
+/// let refusal = Refusal::from(Errno::EMFILE);
+/// assert_eq!(refusal.to_string(), "EMFILE (24); 0 components, 0 links");
+/// ```
+impl From<Errno> for Refusal {
+    fn from(errno: Errno) -> Self {
+        Refusal { errno, detail: Refusal::NO_DETAIL, components: 0, links: 0 }
+    }
+}
+
 /// The refusal of every call on such a table.
 impl From<Broken> for Refusal {
     fn from(_: Broken) -> Self {
-        let detail = Refusal::NO_DETAIL;
-        Refusal { errno: Errno::EUCLEAN, detail, components: 0, links: 0 }
+        Errno::EUCLEAN.into()
     }
 }
 

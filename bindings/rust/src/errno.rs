@@ -1,7 +1,7 @@
 use core::error::Error;
 use core::fmt;
 
-/// Why a path is refused, by Linux's names and numbers.
+/// Why a call is refused, by Linux's names and numbers.
 ///
 /// ```
 /// use ventolaire::Errno;
@@ -17,13 +17,14 @@ pub enum Errno {
     EUCLEAN,
     /// The open_how is over 4,096 bytes, or something stands behind its 24th.
     E2BIG,
-    /// The open_how is not valid, or the path has a zero byte.
+    /// The open_how is not valid, the path has a zero byte, or the mark is asked for
+    /// without `O_DIRECTORY`.
     EINVAL,
     /// The path is over 4,095 bytes, or a name in it over 255.
     ENAMETOOLONG,
     /// The path is empty, a name is not there, or the handle's mark is broken.
     ENOENT,
-    /// The handle is not a place that a handle can have.
+    /// The handle is not a place that a handle can have, or the descriptor is not open.
     EBADF,
     /// Not a directory where one is needed.
     ENOTDIR,
@@ -31,6 +32,10 @@ pub enum Errno {
     ELOOP,
     /// The path leaves the mount or the handle.
     EXDEV,
+    /// All 64 descriptors are open.
+    EMFILE,
+    /// The mark is set on what is not a directory.
+    ENOTTY,
     /// A number that this crate has no name for.
     Other(u64),
 }
@@ -53,6 +58,8 @@ impl Errno {
         Errno::ENOTDIR,
         Errno::ELOOP,
         Errno::EXDEV,
+        Errno::EMFILE,
+        Errno::ENOTTY,
     ];
 
     /// The errno of a number.
@@ -84,6 +91,8 @@ impl Errno {
             Errno::ENOTDIR => 20,
             Errno::ELOOP => 40,
             Errno::EXDEV => 18,
+            Errno::EMFILE => 24,
+            Errno::ENOTTY => 25,
             Errno::Other(number) => number,
         }
     }
@@ -104,6 +113,8 @@ impl Errno {
             Errno::ENOTDIR => "ENOTDIR",
             Errno::ELOOP => "ELOOP",
             Errno::EXDEV => "EXDEV",
+            Errno::EMFILE => "EMFILE",
+            Errno::ENOTTY => "ENOTTY",
             Errno::Other(_) => "unknown errno",
         }
     }

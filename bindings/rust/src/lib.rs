@@ -6,6 +6,7 @@
 mod answer;
 pub mod bench_tree;
 mod bits;
+mod descriptors;
 mod errno;
 #[allow(unsafe_code)]
 mod ffi;
@@ -17,8 +18,9 @@ mod table;
 #[cfg(test)]
 mod tests;
 
-pub use answer::{Broken, Found, Refusal, UnknownBit};
+pub use answer::{Broken, Found, Opened, Refusal, UnknownBit};
 pub use bits::ParseBitsError;
+pub use descriptors::Descriptors;
 pub use errno::Errno;
 pub use how::{Flags, OpenHow, Resolve};
 pub use path::AsPath;

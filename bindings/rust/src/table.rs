@@ -1,5 +1,5 @@
 use crate::records::{Entries, Mount, Mounts, Node, Nodes, Parts};
-use crate::{answer, check, ffi, AsPath, Broken, Found, Handle, OpenHow, Refusal};
+use crate::{answer, check, ffi, AsPath, Broken, Descriptors, Found, Handle, OpenHow, Refusal};
 use core::fmt;
 
 /// A table that was checked: resolves any number of paths without checking it
@@ -32,7 +32,7 @@ use core::fmt;
 /// ```
 #[derive(Clone, Copy)]
 pub struct Table<'a> {
-    /// Accepted by the check: [`Table::new`] alone makes a table.
+    /// Accepted by the check: [`Table::new`] alone makes a table. `ffi` relies on it.
     image: &'a [u8],
     parts: Parts<'a>,
 }
@@ -119,10 +119,25 @@ impl<'a> Table<'a> {
         self.walk(handle.into(), path.path_bytes(), how.as_ref())
     }
 
-    #[allow(unsafe_code)]
     fn walk(&self, handle: Handle, path: &[u8], how: &[u8]) -> Result<Found, Refusal> {
-        // SAFETY: the image was accepted in `new`, and has been borrowed since.
-        answer::of(unsafe { ffi::resolve_accepted(self.image, handle, path, how) })
+        answer::of(ffi::resolve_accepted(self, handle, path, how))
+    }
+
+    /// Descriptors as a script starts with them: 0 is open on the root of mount 0, without the
+    /// mark, and all others are closed. Each call makes others, which share nothing.
+    ///
+    /// ```
+    /// use ventolaire::{bench_tree, Flags, Table};
+    ///
+    /// let table = Table::new(bench_tree::IMAGE)?;
+    /// let mut descriptors = table.descriptors();
+    /// let lab = descriptors.open_marked(0, "lab", Flags::DIRECTORY)?.descriptor;
+    /// assert_eq!(lab, 1);
+    /// assert!(!table.descriptors().is_open(lab));
+    /// # Ok::<(), Box<dyn std::error::Error>>(())
+    /// ```
+    pub fn descriptors(&self) -> Descriptors<'a> {
+        Descriptors::start(*self)
     }
 
     /// Its nodes in the order of their numbers, each with its number.

@@ -1,6 +1,7 @@
 //! Calls and their answers.
 
 mod causes;
+mod descriptors;
 mod errors;
 mod paths;
 mod sets;

@@ -15,6 +15,34 @@
 #![no_std]
 #![warn(missing_docs)]
 
+/// The descriptors of a table.
+pub const VENTOLAIRE_DESCRIPTORS: usize = 64;
+
+/// A table of descriptors: 64 numbers, of which 0 is a closed one.
+#[repr(C)]
+#[derive(Clone, Copy, Debug, PartialEq, Eq)]
+#[allow(non_camel_case_types)]
+pub struct ventolaire_descriptors {
+    /// The slots.
+    pub slots: [u64; VENTOLAIRE_DESCRIPTORS],
+}
+
+/// The type of both functions that open: image, descriptors, number, mark, path,
+/// open_how and output, each pointer but that of the descriptors with its length.
+pub type Open = unsafe extern "C" fn(
+    *const u8,
+    usize,
+    *mut ventolaire_descriptors,
+    u64,
+    bool,
+    *const u8,
+    usize,
+    *const u8,
+    usize,
+    *mut u64,
+    usize,
+) -> usize;
+
 /// The type of both functions that resolve: image, mount, node, mark, path,
 /// open_how and output, each pointer with its length.
 pub type Resolve = unsafe extern "C" fn(
@@ -56,8 +84,8 @@ extern "C" {
         out_len: usize,
     ) -> usize;
 
-    /// The same without the check. Wants an image that `ventolaire_check` accepted and that has not changed
-    /// since; with any other the behaviour is undefined.
+    /// The same without the check. Wants an image that `ventolaire_check` accepted and that has
+    /// not changed since; with any other the behaviour is undefined.
     pub fn ventolaire_resolve_accepted(
         image: *const u8,
         image_len: usize,
@@ -68,6 +96,79 @@ extern "C" {
         path_len: usize,
         how: *const u8,
         how_len: usize,
+        out: *mut u64,
+        out_len: usize,
+    ) -> usize;
+
+    /// Descriptors as they start, and the check of the image.
+    pub fn ventolaire_start(
+        image: *const u8,
+        image_len: usize,
+        descriptors: *mut ventolaire_descriptors,
+        out: *mut u64,
+        out_len: usize,
+    ) -> usize;
+
+    /// The same without the check. Wants an accepted image, as `ventolaire_resolve_accepted` does.
+    pub fn ventolaire_start_accepted(
+        image: *const u8,
+        image_len: usize,
+        descriptors: *mut ventolaire_descriptors,
+    );
+
+    /// Opens a path from a descriptor, the image checked: the numbers of an answer, then the
+    /// descriptor given.
+    pub fn ventolaire_open(
+        image: *const u8,
+        image_len: usize,
+        descriptors: *mut ventolaire_descriptors,
+        number: u64,
+        mark: bool,
+        path: *const u8,
+        path_len: usize,
+        how: *const u8,
+        how_len: usize,
+        out: *mut u64,
+        out_len: usize,
+    ) -> usize;
+
+    /// The same without the check. Wants an accepted image, as `ventolaire_resolve_accepted` does.
+    pub fn ventolaire_open_accepted(
+        image: *const u8,
+        image_len: usize,
+        descriptors: *mut ventolaire_descriptors,
+        number: u64,
+        mark: bool,
+        path: *const u8,
+        path_len: usize,
+        how: *const u8,
+        how_len: usize,
+        out: *mut u64,
+        out_len: usize,
+    ) -> usize;
+
+    /// Duplicates a descriptor, its mark included.
+    pub fn ventolaire_dup(
+        descriptors: *mut ventolaire_descriptors,
+        number: u64,
+        out: *mut u64,
+        out_len: usize,
+    ) -> usize;
+
+    /// Closes a descriptor.
+    pub fn ventolaire_close(
+        descriptors: *mut ventolaire_descriptors,
+        number: u64,
+        out: *mut u64,
+        out_len: usize,
+    ) -> usize;
+
+    /// Marks a descriptor.
+    pub fn ventolaire_set_mark(
+        image: *const u8,
+        image_len: usize,
+        descriptors: *mut ventolaire_descriptors,
+        number: u64,
         out: *mut u64,
         out_len: usize,
     ) -> usize;

@@ -1,12 +1,19 @@
 // Runs the cases of its standard input, compares each answer with the expected one, and says of each which it was.
 //
-// The input is written by tests/cases/write: a u32 count, then a record of 80 bytes for each case, then the bytes that the records
-// lend. All numbers are little-endian. A record: u32 kind (1: table check, 2: call); u32 offset and u32 length of the image, the
-// path, the open_how and the case's name; u32 mark; u64 mount; u64 node; the expected numbers, six u32 for a call, two for a check.
+// The input is written by tests/cases/write: a u32 count, then a record of 84 bytes for each case, then the bytes that the records
+// lend. All numbers are little-endian. A record: u32 kind (1: table check, 2: call, 3: start of descriptors, 4: open, 5: duplicate,
+// 6: close, 7: set the mark); u32 offset and u32 length of the image, the path, the open_how and the case's name; u32 mark, of an open
+// whether it is asked; u64 mount, of a descriptor call the descriptor; u64 node; seven u32, the expected numbers: two for a check
+// and a start, six for a call, seven for a descriptor call, then zeros. A start's descriptors are those of the records after it.
 use fields::u32_at;
 use fields::u64_at;
 use ventolaire::ventolaire_check;
+use ventolaire::ventolaire_close;
+use ventolaire::ventolaire_dup;
+use ventolaire::ventolaire_open;
 use ventolaire::ventolaire_resolve;
+use ventolaire::ventolaire_set_mark;
+use ventolaire::ventolaire_start;
 ghost use mathlib.Core.Bool.{true};
 ghost use mathlib.Core.Path.{_≡_};
 ghost use Prim.Native.Nat.{_+_, _*_, _≤_};
@@ -25,13 +32,43 @@ fn part(s: &[u8], at: usize) -> &[u8]
     &s[..0]
 }
 
-// The six numbers of the answer; of a table check the first two, and zeros.
-fn answer(s: &[u8], at: usize) -> [u64; 6]
-    requires { ⌜ at + 80 ≤ length (now s) ⌝ }
+// The numbers of a reply: those of a start are two.
+fn reply(s: &[u8], at: usize, kind: usize, slots: &mut [u64; 64]) -> [u64; 7]
+    requires { ⌜ at + 84 ≤ length (now s) ⌝ }
 {
-    let mut out = [0u64; 6];
+    let mut out = [0u64; 7];
     let image = part(s, at + 4);
-    if u32_at(s, at) == 1 {
+    let number = u64_at(s, at + 40);
+    if kind == 3 {
+        ventolaire_start(image, slots, &mut out);
+        return out;
+    }
+    if kind == 4 {
+        let path = part(s, at + 12);
+        let how = part(s, at + 20);
+        let mark = u32_at(s, at + 36) == 1;
+        ventolaire_open(image, slots, number, mark, path, how, &mut out);
+        return out;
+    }
+    if kind == 5 {
+        ventolaire_dup(slots, number, &mut out);
+        return out;
+    }
+    if kind == 6 {
+        ventolaire_close(slots, number, &mut out);
+        return out;
+    }
+    ventolaire_set_mark(image, slots, number, &mut out);
+    out
+}
+
+// The numbers of an answer: of a table check two, of a call six.
+fn answer(s: &[u8], at: usize, kind: usize) -> [u64; 7]
+    requires { ⌜ at + 84 ≤ length (now s) ⌝ }
+{
+    let mut out = [0u64; 7];
+    let image = part(s, at + 4);
+    if kind == 1 {
         ventolaire_check(image, &mut out);
         return out;
     }
@@ -44,23 +81,34 @@ fn answer(s: &[u8], at: usize) -> [u64; 6]
     out
 }
 
-fn expected(s: &[u8], at: usize) -> [u64; 6]
-    requires { ⌜ at + 80 ≤ length (now s) ⌝ }
+// A record of any kind.
+fn answered(s: &[u8], at: usize, slots: &mut [u64; 64]) -> [u64; 7]
+    requires { ⌜ at + 84 ≤ length (now s) ⌝ }
 {
-    let mut out = [0u64; 6];
+    let kind = u32_at(s, at);
+    if kind < 3 {
+        return answer(s, at, kind);
+    }
+    reply(s, at, kind, slots)
+}
+
+fn expected(s: &[u8], at: usize) -> [u64; 7]
+    requires { ⌜ at + 84 ≤ length (now s) ⌝ }
+{
+    let mut out = [0u64; 7];
     let mut i = 0;
-    while i < 6 {
+    while i < 7 {
         out[i] = u32_at(s, at + 56 + 4 * i) as u64;
         i += 1;
     }
     out
 }
 
-fn same(a: [u64; 6], b: [u64; 6]) -> bool
+fn same(a: [u64; 7], b: [u64; 7]) -> bool
     ensures { λ r. ⌜ (r ≡ true → a ≡ b) ⌝ }
 {
     let mut i = 0;
-    while i < 6 {
+    while i < 7 {
         if a[i] != b[i] {
             return false;
         }
@@ -69,9 +117,9 @@ fn same(a: [u64; 6], b: [u64; 6]) -> bool
     true
 }
 
-fn print_six(numbers: [u64; 6]) {
+fn print_seven(numbers: [u64; 7]) {
     let mut i = 0;
-    while i < 6 {
+    while i < 7 {
         io::write_all(1, b" ");
         io::print_decimal(1, numbers[i]);
         i += 1;
@@ -79,12 +127,12 @@ fn print_six(numbers: [u64; 6]) {
 }
 
 // Runs the case whose record begins at a place.
-fn run_case(s: &[u8], at: usize) -> bool
-    requires { ⌜ at + 80 ≤ length (now s) ⌝ }
+fn run_case(s: &[u8], at: usize, slots: &mut [u64; 64]) -> bool
+    requires { ⌜ at + 84 ≤ length (now s) ⌝ }
 {
     let name = part(s, at + 28);
     let want = expected(s, at);
-    let got = answer(s, at);
+    let got = answered(s, at, slots);
     if same(want, got) {
         io::write_all(1, b"ok ");
         io::write_all(1, name);
@@ -94,9 +142,9 @@ fn run_case(s: &[u8], at: usize) -> bool
     io::write_all(1, b"no ");
     io::write_all(1, name);
     io::write_all(1, b": expected");
-    print_six(want);
+    print_seven(want);
     io::write_all(1, b", got");
-    print_six(got);
+    print_seven(got);
     io::write_all(1, b"\n");
     false
 }
@@ -106,14 +154,15 @@ fn run(s: &[u8], count: usize) -> usize
     requires { ⌜ count ≤ 65536 ⌝ }
     ensures { λ r. ⌜ r ≤ count ⌝ }
 {
+    let mut slots = [0u64; 64];
     let mut passed = 0;
     let mut i = 0;
     while i < count {
-        let at = 4 + 80 * i;
-        if s.len() < at + 80 {
+        let at = 4 + 84 * i;
+        if s.len() < at + 84 {
             return passed;
         }
-        if run_case(s, at) {
+        if run_case(s, at, &mut slots) {
             passed += 1;
         }
         i += 1;

@@ -30,3 +30,16 @@ pub fn u64_at(s: &[u8], at: usize) -> u64
 {
     (u32_at(s, at) + 4294967296 * u32_at(s, at + 4)) as u64
 }
+
+// A field of 2 bytes at any position: a byte past the end reads as 0.
+pub fn u16_within(s: &[u8], at: usize) -> usize
+    ensures { λ r. ⌜ (r ≡ field 2 (now (s .entry)) at) × (r < 2 ^ 16) ⌝ }
+{
+    if s.len() <= at {
+        return 0;
+    }
+    if s.len() <= at + 1 {
+        return wide(s[at]);
+    }
+    u16_at(s, at)
+}

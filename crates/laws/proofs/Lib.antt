@@ -11,3 +11,4 @@ pub mod EntryLaws
 pub mod MountLaws
 pub mod Inside
 pub mod Refusals
+pub mod DescriptorLaws

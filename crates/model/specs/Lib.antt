@@ -11,3 +11,4 @@ pub mod Trace
 pub mod Walk
 pub mod Step
 pub mod Resolve
+pub mod Descriptors

@@ -45,7 +45,8 @@ pub struct Reached {
     pub progress: Progress,
 }
 
-// The error numbers that the resolver gives, by their usual names (RULES 5.7). Answers.antt in specs/ has each one's number.
+// The error numbers that the resolver and the descriptor table give, by their usual names (RULES 5.7, 17.8). Answers.antt in specs/ has each
+// one's number.
 pub enum Errno {
     Euclean,
     E2big,
@@ -56,6 +57,8 @@ pub enum Errno {
     Enotdir,
     Eloop,
     Exdev,
+    Emfile,
+    Enotty,
 }
 
 // What a refusal carries (RULES 5.4): detail is an unknown bit's number, else NO_DETAIL.
@@ -75,4 +78,18 @@ pub enum Answer {
 pub enum Verdict {
     Accepted,
     Broken { rule: usize, record: usize },
+}
+
+// A descriptor that was opened: its number, and what was reached (RULES 17.6).
+pub struct Descriptor {
+    pub number: usize,
+    pub reached: Reached,
+}
+
+// What a descriptor call comes to (RULES 17.3): a path opened, a number duplicated, a close or a mark done, or a refusal.
+pub enum Reply {
+    Opened(Descriptor),
+    Duplicated(usize),
+    Done,
+    Refused(Refusal),
 }

@@ -45,7 +45,7 @@ pub fn has(bit: u64, x: u64) -> bool
 }
 
 // The bytes of an open_how's fields, and the most that one has.
-const FIELDS: usize = 24;
+pub const FIELDS: usize = 24;
 
 const MOST_HOW: usize = 4096;
 

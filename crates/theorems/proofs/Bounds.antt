@@ -1,4 +1,5 @@
--- "At most 40 links are followed and at most 83,968 components taken (41 texts of at most 2,048)." (RULES 11.1), whatever the bytes. Assumes nothing.
+-- "At most 40 links are followed and at most 83,968 components taken (41 texts of at most 2,048)." (RULES 11.1), whatever the bytes; and a place
+-- that is found is one of the tree. Assumes nothing.
 use Prim.Native.Nat.{ℕ, zero, suc, _-_, _≤_, _<_}
 use mathlib.Core.Bool.{Bool, cond, not, _&&_, _||_}
 use mathlib.Core.List.{List, [], _∷_}
@@ -23,7 +24,7 @@ use Rattle.model.specs.declared.State.{State}
 use Rattle.model.specs.declared.Refusal.{Refusal}
 use Rattle.model.specs.declared.Errno.{Errno}
 use Rattle.model.specs.declared.Answer.{Answer}
-use Rattle.theorems.specs.Bounded.{Bounded, EveryWalk}
+use Rattle.theorems.specs.Bounded.{Bounded, EveryWalk, FoundInside, EveryPlace}
 use Rattle.laws.specs.Inside.{Inside}
 use Rattle.theorems.specs.Ordered.{Room}
 use Rattle.laws.proofs.Cases.{cond-cases}
@@ -36,36 +37,40 @@ use Rattle.laws.proofs.Refusals.{unrefused, path-short, handle-inside, Uncounte
 not-walked-bounded : Bounded notWalked
 not-walked-bounded = record { few-links = lit≤ tt; few-components = lit≤ tt }
 
--- every count that a trace shows is bounded
-abbrev pub Within : Trace → Type 0
-Within (stop a) = Bounded (progressOf a)
-Within (meet e p later) = Bounded p × Within later
-Within (stand p later) = Within later
+-- an answer whose counts are bounded, and whose place, if it found one, is the tree's
+abbrev AnswerWithin : Tree → Answer → Type 0
+AnswerWithin t a = Bounded (progressOf a) × FoundInside t a
 
-meets-within : (es : List Event) (p : Progress) (later : Trace) → Bounded p → Within later → Within (meets es p later)
+-- every count that a trace shows is bounded, and its answer is so kept
+abbrev pub Within : Tree → Trace → Type 0
+Within t (stop a) = AnswerWithin t a
+Within t (meet e p later) = Bounded p × Within t later
+Within t (stand p later) = Within t later
+
+meets-within : (t : Tree) (es : List Event) (p : Progress) (later : Trace) → Bounded p → Within t later → Within t (meets es p later)
 unfolding meets
-meets-within [] p later b w = w
-meets-within (e ∷ es) p later b w = (b, meets-within es p later b w)
+meets-within t [] p later b w = w
+meets-within t (e ∷ es) p later b w = (b, meets-within t es p later b w)
 
-refused-within : (o : Option Errno) (p : Progress) (a : Answer) → Bounded p → Bounded (progressOf a) → Bounded (progressOf (refusedBy o p a))
-refused-within none p a b w = w
-refused-within (some e) p a b w = b
+refused-within : (t : Tree) (o : Option Errno) (p : Progress) (a : Answer) → Bounded p → AnswerWithin t a → AnswerWithin t (refusedBy o p a)
+refused-within t none p a b w = w
+refused-within t (some e) p a b w = (b, tt)
 
-answer-within : (R : Restrictions) (t : Trace) → Within t → Bounded (progressOf (answer R t))
+answer-within : (t : Tree) (R : Restrictions) (trace : Trace) → Within t trace → AnswerWithin t (answer R trace)
 unfolding answer
-answer-within R (stop a) w = w
-answer-within R (stand p later) w = answer-within R later w
-answer-within R (meet e p later) w = refused-within (forbids R e) p (answer R later) (w .0) (answer-within R later (w .1))
+answer-within t R (stop a) w = w
+answer-within t R (stand p later) w = answer-within t R later w
+answer-within t R (meet e p later) w = refused-within t (forbids R e) p (answer R later) (w .0) (answer-within t R later (w .1))
 
 pub room-bounded : {links pending : ℕ} {s : State} → Room links pending s → Bounded (s .progress)
 room-bounded {links} {pending} {s} r = record { few-links = omega (arith, r .links-left); few-components = omega (arith, r .texts-left) }
 
-finish-progress : (a : Request) (s : State) → progressOf (finish a s) ≡ s .progress
+finish-within : (a : Request) (s : State) → Inside (a .tree) (s .place) → Bounded (s .progress) → AnswerWithin (a .tree) (finish a s)
 unfolding finish
-finish-progress a s =
-    cond-cases (λ (x : Answer). progressOf x ≡ s .progress) (s .directory && not (isDirectory (a .tree) (s .place .node))) _ _
-    (λ _. refl)
-    (λ _. cond-cases (λ (x : Answer). progressOf x ≡ s .progress) (isLink (a .tree) (s .place .node) && not (a .pathOnly)) _ _ (λ _. refl) (λ _. refl))
+finish-within a s i b =
+    cond-cases (AnswerWithin (a .tree)) (s .directory && not (isDirectory (a .tree) (s .place .node))) _ _
+    (λ _. (b, tt))
+    (λ _. cond-cases (AnswerWithin (a .tree)) (isLink (a .tree) (s .place .node) && not (a .pathOnly)) _ _ (λ _. (b, tt)) (λ _. (b, i)))
 
 -- what a component comes to keeps to the tree and to the bounds; a followed link spends one of those left
 abbrev pub TurnOrdered : Tree → ℕ → ℕ → Turn → Type 0
@@ -115,43 +120,43 @@ module _ (a : Request) (sound : Sound (a .tree)) (root : Inside (a .tree) (a .ro
       (λ _. record { met-bounded = room-bounded r; turn-ordered = room-bounded r })
 
   turned-within : (links pending : ℕ) (on : State → Trace) (later : List Component → State → Trace)
-      → ((s : State) → Inside (a .tree) (s .place) → Room links pending s → Within (on s))
-      → ((cs : List Component) (s : State) → Inside (a .tree) (s .place) → Room (links - 1) (length cs) s → Within (later cs s))
-      → (t : Turn) → TurnOrdered (a .tree) links pending t → Within (turned on later t)
-  turned-within links pending on later ho hl (refuses e s) o = o
+      → ((s : State) → Inside (a .tree) (s .place) → Room links pending s → Within (a .tree) (on s))
+      → ((cs : List Component) (s : State) → Inside (a .tree) (s .place) → Room (links - 1) (length cs) s → Within (a .tree) (later cs s))
+      → (t : Turn) → TurnOrdered (a .tree) links pending t → Within (a .tree) (turned on later t)
+  turned-within links pending on later ho hl (refuses e s) o = (o, tt)
   turned-within links pending on later ho hl (went s) o = ho s (o .0) (o .1)
   turned-within links pending on later ho hl (followed cs s) o = hl cs s (o .0) (o .1)
 
   pending-within : (links : ℕ) (later : List Component → State → Trace)
-      → ((cs : List Component) (s : State) → Inside (a .tree) (s .place) → Room (links - 1) (length cs) s → Within (later cs s))
-      → (pending : List Component) (s : State) → Inside (a .tree) (s .place) → Room links (length pending) s → Within (walkPending a links later pending s)
+      → ((cs : List Component) (s : State) → Inside (a .tree) (s .place) → Room (links - 1) (length cs) s → Within (a .tree) (later cs s))
+      → (pending : List Component) (s : State) → Inside (a .tree) (s .place) → Room links (length pending) s → Within (a .tree) (walkPending a links later pending s)
   unfolding walkPending
-  pending-within links later hl [] s i r = subst Bounded (sym (finish-progress a s)) (room-bounded r)
+  pending-within links later hl [] s i r = finish-within a s i (room-bounded r)
   pending-within links later hl (c ∷ pending) s i r =
       let t = transition a links c pending s in
       let o = transition-ordered links c pending s i r in
-      meets-within (t .events) (t .met .progress) _ (o .met-bounded)
+      meets-within (a .tree) (t .events) (t .met .progress) _ (o .met-bounded)
       (turned-within links (length pending) (walkPending a links later pending) later (pending-within links later hl pending) hl (t .turn) (o .turn-ordered))
 
   pub walk-within : (links : ℕ) (pending : List Component) (s : State) → Inside (a .tree) (s .place) → Room links (length pending) s
-      → Within (walk a links pending s)
+      → Within (a .tree) (walk a links pending s)
   unfolding walk
-  walk-within zero pending s i r = pending-within zero noneLeft (λ cs s′ j q. room-bounded q) pending s i r
+  walk-within zero pending s i r = pending-within zero noneLeft (λ cs s′ j q. (room-bounded q, tt)) pending s i r
   walk-within (suc links) pending s i r =
       let e : suc links - 1 ≡ links = omega arith in
       pending-within (suc links) (walk a links) (λ cs s′ j q. walk-within links cs s′ j (subst (λ (n : ℕ). Room n (length cs) s′) e q)) pending s i r
 
-  begin-within : (directory : Bool) (path : List ℕ) (p : Place) → length path ≤ 4095 → Inside (a .tree) p → Within (beginAt a directory path p)
+  begin-within : (directory : Bool) (path : List ℕ) (p : Place) → length path ≤ 4095 → Inside (a .tree) p → Within (a .tree) (beginAt a directory path p)
   unfolding beginAt
   begin-within directory path p h i =
       let few = components-few givenPath path h in
       walk-within 40 (components givenPath path) (record { place = p; progress = notWalked; directory = directory }) i
       (record { links-left = lit≤ tt; texts-left = omega (arith, few) })
 
-  path-within : (directory : Bool) (path : List ℕ) → length path ≤ 4095 → Inside (a .tree) (a .handle) → Within (walkPath a directory path)
+  path-within : (directory : Bool) (path : List ℕ) → length path ≤ 4095 → Inside (a .tree) (a .handle) → Within (a .tree) (walkPath a directory path)
   unfolding walkPath
   path-within directory path h i =
-      cond-cases Within (absolute path) _ _
+      cond-cases (Within (a .tree)) (absolute path) _ _
       (λ _. (not-walked-bounded, begin-within directory path (a .root) h root))
       (λ _. begin-within directory path (a .handle) h i)
 
@@ -160,23 +165,29 @@ pub either-root-inside : {t : Tree} → Sound t → (p : Place) → Inside t p �
 either-root-inside {t} sound p inside b =
     cond-cases (Inside t) b p (rootOf t 0) (λ _. inside) (λ _. root-inside t sound 0 (sound .mounts-hold .some-mount))
 
-resolve-bounded-by : (image : List ℕ) (call : Call) (o : Option Refusal) → refusedBefore image call ≡ o
-    → Uncounted o → Bounded (progressOf (unlessRefused o (answer (restrictions call) (traceOf image call))))
+resolve-within-by : (image : List ℕ) (call : Call) (o : Option Refusal) → refusedBefore image call ≡ o
+    → Uncounted o → AnswerWithin (treeOf image) (unlessRefused o (answer (restrictions call) (traceOf image call)))
 unfolding traceOf requestOf
-resolve-bounded-by image call (some r) e u = subst Bounded (sym u) not-walked-bounded
-resolve-bounded-by image call none e u =
+resolve-within-by image call (some r) e u = (subst Bounded (sym u) not-walked-bounded, tt)
+resolve-within-by image call none e u =
     let tree = treeOf image in
     let un = unrefused image call e in
     let sound = accepted-sound image (un .table-passes) in
     let handle = handle-inside tree (call .handle) (un .handle-passes) in
     let root = either-root-inside sound (placeOf (call .handle)) handle (has IN-ROOT (resolveOf (call .how))) in
     let directory = has O-DIRECTORY (flagsOf (call .how)) || endsInSlash (call .path) in
-    answer-within (restrictions call) (traceOf image call)
+    answer-within tree (restrictions call) (traceOf image call)
     (path-within (requestOf image call) sound root directory (call .path) (path-short (call .path) (un .path-passes)) handle)
+
+resolve-within : (image : List ℕ) (call : Call) → AnswerWithin (treeOf image) (resolve image call)
+unfolding resolve
+resolve-within image call =
+    let before = refusedBefore image call in
+    resolve-within-by image call before refl (before-uncounted image call)
 
 -- whatever the bytes
 pub every-walk-bounded : EveryWalk
-unfolding resolve
-every-walk-bounded image call =
-    let before = refusedBefore image call in
-    resolve-bounded-by image call before refl (before-uncounted image call)
+every-walk-bounded image call = resolve-within image call .0
+
+pub every-place-inside : EveryPlace
+every-place-inside image call = resolve-within image call .1

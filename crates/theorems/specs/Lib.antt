@@ -2,3 +2,4 @@
 pub mod Adding
 pub mod Bounded
 pub mod Ordered
+pub mod Descriptors

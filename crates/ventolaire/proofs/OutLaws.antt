@@ -3,14 +3,21 @@ use Prim.Native.Nat.{ℕ, suc, _≤_, _<_}
 use mathlib.Core.List.{List, [], _∷_, _++_}
 use mathlib.Core.Path.{_≡_, refl, ap, _∙_, sym}
 use native.Mathlib.Omega.{arith}
-use lib.ListN.{length, drop, set}
+use borrow.Author.Tests.{lt-ltb, le-ltb}
+use lib.ListN.{length, take, drop, set}
 use Rattle.model.specs.Answers.{errnoNumber, answerNumbers, verdictNumbers}
 use Rattle.model.specs.declared.Answer.{Answer}
 use Rattle.model.specs.declared.Answer.the-variants.{Found, Refused}
 use Rattle.model.specs.declared.Refusal.{Refusal}
 use Rattle.model.specs.declared.Verdict.{Verdict}
 use Rattle.model.specs.declared.Verdict.the-variants.{Accepted, Broken}
-use Rattle.ventolaire.specs.Written.{Writes}
+use Rattle.model.specs.TableCheck.{tableCheck}
+use Rattle.model.specs.Descriptors.{start, Served, replyNumbers}
+use Rattle.model.specs.declared.Reply.{Reply}
+use Rattle.model.specs.declared.Reply.the-variants.{Opened, Duplicated, Done, Refused as Reply-refused}
+use Rattle.descriptors.specs.Slots.{slotsBy}
+use Rattle.descriptors.specs.Replies.{Serves}
+use Rattle.ventolaire.specs.Written.{errnoNumbers, errnosFor, Writes, WritesStart, WritesReply}
 
 -- stores of numbers, one after the other from an index on
 abbrev pub stores : List ℕ → ℕ → List ℕ → List ℕ
@@ -62,6 +69,61 @@ verdict-writes {v} {r} {before} {after} is h e =
 pub verdict-short : (v : Verdict) (before : List ℕ) → length before < 2 → Writes (verdictNumbers v) before before 0
 verdict-short v before = writes-none (verdictNumbers v) before 2 (verdict-two v)
 
+-- a descriptor call's reply has seven
+reply-seven : (r : Reply) → length (replyNumbers r) ≡ 7
+reply-seven (Opened o) = refl
+reply-seven (Duplicated d) = refl
+reply-seven Done = refl
+reply-seven (Reply-refused r) = refl
+
+module _ {served : Served} {slots out : List ℕ} where
+  pub reply-writes : {slots′ out′ : List ℕ} {r : Reply} → Serves served slots slots′ r → 7 ≤ length out → out′ ≡ replyNumbers r ++ drop 7 out
+      → WritesReply served slots slots′ out out′ 7
+  reply-writes {slots′} {out′} {r} s h e = record {
+    numbers =
+        writes-all (replyNumbers (served .reply)) 7 (reply-seven (served .reply)) out out′ h (e ∙ ap (λ (y : Reply). replyNumbers y ++ drop 7 out) (s .reply-is));
+    slots-are = λ _. s .slots-are;
+    refusal-keeps = λ q is. s .refusal-keeps q (s .reply-is ∙ is);
+    short = λ l. absurd (omega arith);
+  }
+
+pub reply-short : (served : Served) (slots out : List ℕ) → length out < 7 → WritesReply served slots slots out out 0
+reply-short served slots out h = record {
+  numbers = writes-none (replyNumbers (served .reply)) out 7 (reply-seven (served .reply)) h;
+  slots-are = λ l. absurd (omega arith);
+  refusal-keeps = λ _ _. refl;
+  short = λ _. refl;
+}
+
+module _ (image : List ℕ) {slots out : List ℕ} where
+  pub start-writes : {slots′ out′ : List ℕ} {v : Verdict} → (v ≡ tableCheck image) × (slotsBy slots′ ≡ start image) × (drop 64 slots′ ≡ drop 64 slots)
+      → 2 ≤ length out → out′ ≡ verdictNumbers v ++ drop 2 out → WritesStart image slots slots′ out out′ 2
+  start-writes s h e = record { numbers = verdict-writes (s .0) h e; started = λ _. s .1; short = λ l. absurd (omega arith) }
+
+pub start-short : (image slots out : List ℕ) → length out ≤ 1 → WritesStart image slots slots out out 0
+start-short image slots out h = record { numbers = verdict-short (tableCheck image) out (omega arith); started = λ l. absurd (omega arith); short = λ _. refl }
+
+-- the errnos that an array of a length gets
+pub errnos-few : (room : ℕ) → room < 11 → errnosFor room ≡ take 9 errnoNumbers
+errnos-few room h = rw (lt-ltb room 11 h)
+
+pub errnos-all : (room : ℕ) → 11 ≤ room → errnosFor room ≡ errnoNumbers
+errnos-all room h = rw (le-ltb room 11 h)
+
+module _ (out : List ℕ) where
+  pub errnos-none : length out < 9 → Writes (errnosFor (length out)) out out 0
+  errnos-none h = writes-none (errnosFor (length out)) out 9 (ap length (errnos-few (length out) (omega arith))) h
+
+  pub errnos-nine : {after : List ℕ} → 9 ≤ length out → length out < 11 → after ≡ take 9 errnoNumbers ++ drop 9 out → Writes (errnosFor (length out)) out after 9
+  errnos-nine {after} h few e =
+      let is = errnos-few (length out) few in
+      writes-all (errnosFor (length out)) 9 (ap length is) out after h (e ∙ ap (λ (ns : List ℕ). ns ++ drop 9 out) (sym is))
+
+  pub errnos-eleven : {after : List ℕ} → 11 ≤ length out → after ≡ errnoNumbers ++ drop 11 out → Writes (errnosFor (length out)) out after 11
+  errnos-eleven {after} h e =
+      let is = errnos-all (length out) h in
+      writes-all (errnosFor (length out)) 11 (ap length is) out after h (e ∙ ap (λ (ns : List ℕ). ns ++ drop 11 out) (sym is))
+
 -- the numbers of what was told
 module _ (out : List ℕ) {after : List ℕ} where
   pub verdict-told : {v told : Verdict} → v ≡ told → after ≡ verdictNumbers told ++ drop 2 out → after ≡ verdictNumbers v ++ drop 2 out
@@ -74,3 +136,11 @@ module _ (out : List ℕ) {after : List ℕ} where
       → after ≡ n ∷ r .detail ∷ 0 ∷ 0 ∷ r .progress .components ∷ r .progress .links ∷ drop 6 out → after ≡ answerNumbers a ++ drop 6 out
   refusal-told {r = r} is number e =
       answer-told is (e ∙ ap (λ x. x ∷ r .detail ∷ 0 ∷ 0 ∷ r .progress .components ∷ r .progress .links ∷ drop 6 out) number)
+
+  pub reply-told : {r told : Reply} → r ≡ told → after ≡ replyNumbers told ++ drop 7 out → after ≡ replyNumbers r ++ drop 7 out
+  reply-told is e = e ∙ ap (λ x. replyNumbers x ++ drop 7 out) (sym is)
+
+  pub denial-told : {r : Reply} {q : Refusal} {n : ℕ} → r ≡ Reply-refused q → n ≡ errnoNumber (q .errno)
+      → after ≡ n ∷ q .detail ∷ 0 ∷ 0 ∷ q .progress .components ∷ q .progress .links ∷ 0 ∷ drop 7 out → after ≡ replyNumbers r ++ drop 7 out
+  denial-told {q = q} is number e =
+      reply-told is (e ∙ ap (λ x. x ∷ q .detail ∷ 0 ∷ 0 ∷ q .progress .components ∷ q .progress .links ∷ 0 ∷ drop 7 out) number)

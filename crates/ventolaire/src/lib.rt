@@ -1,21 +1,33 @@
 // The C interface: pointers with lengths and numbers in, the answer as numbers into a lent array. A lent array that is too short is
-// left as it was, and 0 is returned; else it is how many numbers were written. All else that is lent stays as it was.
+// left as it was, and 0 is returned; else it is how many numbers were written. All else that is lent stays as it was, but for the 64 slots
+// of a descriptor table, which a call that is not refused may change.
+use descriptors::close;
+use descriptors::duplicate;
+use descriptors::open;
+use descriptors::open_accepted;
+use descriptors::set_mark;
+use descriptors::slots::DESCRIPTORS;
+use descriptors::start;
+use descriptors::start_accepted;
 use model::Answer;
 use model::Errno;
 use model::Handle;
 use model::NO_DETAIL;
+use model::Reply;
 use model::Verdict;
 use resolver::resolve;
 use resolver::resolve_accepted;
 use table::check;
-ghost use mathlib.Core.List.{[], _∷_, _++_};
+ghost use mathlib.Core.List.{List, [], _∷_, _++_};
 ghost use mathlib.Core.Path.{_≡_};
 ghost use Prim.Native.Nat.{ℕ, _≤_};
 ghost use lib.ListN.{length, drop};
 ghost use Rattle.model.specs.Answers.{errnoNumber, answerNumbers, verdictNumbers};
 ghost use Rattle.model.specs.TableCheck.{tableCheck};
+ghost use Rattle.model.specs.Descriptors.{openPath, duplicate, close, setMark, start, serve, replyNumbers};
 ghost use Rattle.model.specs.declared.Verdict.the-variants.{Accepted};
-ghost use Rattle.ventolaire.specs.Written.{callBy, errnoNumbers, Writes, WritesAnswer};
+ghost use Rattle.descriptors.specs.Slots.{slotsBy};
+ghost use Rattle.ventolaire.specs.Written.{callBy, errnosFor, Writes, WritesAnswer, WritesStart, WritesReply, Stay};
 
 fn errno_number(e: Errno) -> u64
     ensures { λ r. ⌜ r ≡ errnoNumber e ⌝ }
@@ -30,6 +42,8 @@ fn errno_number(e: Errno) -> u64
         Errno::Enotdir => 20,
         Errno::Eloop => 40,
         Errno::Exdev => 18,
+        Errno::Emfile => 24,
+        Errno::Enotty => 25,
     }
 }
 
@@ -51,6 +65,19 @@ fn put6(out: &mut [u64], a: u64, b: u64, c: u64, d: u64, e: u64, f: u64)
     out[3] = d;
     out[4] = e;
     out[5] = f;
+}
+
+fn put7(out: &mut [u64], a: u64, b: u64, c: u64, d: u64, e: u64, f: u64, g: u64)
+    requires { ⌜ 7 ≤ length (now out) ⌝ }
+    ensures { λ r. ⌜ now (out .exit) ≡ a ∷ b ∷ c ∷ d ∷ e ∷ f ∷ g ∷ drop 7 (now (out .entry)) ⌝ }
+{
+    out[0] = a;
+    out[1] = b;
+    out[2] = c;
+    out[3] = d;
+    out[4] = e;
+    out[5] = f;
+    out[6] = g;
 }
 
 fn put_verdict(out: &mut [u64], v: Verdict)
@@ -92,6 +119,47 @@ fn put_answer(out: &mut [u64], a: Answer)
                 0,
                 g.components as u64,
                 g.links as u64,
+            );
+        }
+    }
+}
+
+fn put_reply(out: &mut [u64], r: Reply)
+    requires { ⌜ 7 ≤ length (now out) ⌝ }
+    ensures { λ r′. ⌜ now (out .exit) ≡ replyNumbers r ++ drop 7 (now (out .entry)) ⌝ }
+{
+    match r {
+        Reply::Opened(o) => {
+            let reached = o.reached;
+            let at = reached.place;
+            let g = reached.progress;
+            put7(
+                out,
+                0,
+                NO_DETAIL as u64,
+                at.mount as u64,
+                at.node as u64,
+                g.components as u64,
+                g.links as u64,
+                o.number as u64,
+            );
+        }
+        Reply::Duplicated(number) => {
+            put7(out, 0, NO_DETAIL as u64, 0, 0, 0, 0, number as u64);
+        }
+        Reply::Done => put7(out, 0, NO_DETAIL as u64, 0, 0, 0, 0, 0),
+        Reply::Refused(q) => {
+            let g = q.progress;
+            let errno = q.errno;
+            put7(
+                out,
+                errno_number(errno),
+                q.detail as u64,
+                0,
+                0,
+                g.components as u64,
+                g.links as u64,
+                0,
             );
         }
     }
@@ -162,12 +230,13 @@ pub extern "C" fn ventolaire_resolve_accepted<'a>(
     6
 }
 
-// The numbers of the errnos, in the order in which they are declared.
+// The numbers of the errnos, in the order in which they are declared. An array with room for the first nine alone gets these.
 #[no_mangle]
 pub extern "C" fn ventolaire_errnos(out: &mut [u64]) -> usize
-    ensures { λ r. ⌜ Writes errnoNumbers (now (out .entry)) (now (out .exit)) r ⌝ }
+    ensures { λ r. ⌜ Writes (errnosFor (length (now (out .entry)))) (now (out .entry)) (now (out .exit)) r ⌝ }
 {
-    if out.len() < 9 {
+    let room = out.len();
+    if room < 9 {
         return 0;
     }
     out[0] = errno_number(Errno::Euclean);
@@ -179,5 +248,135 @@ pub extern "C" fn ventolaire_errnos(out: &mut [u64]) -> usize
     out[6] = errno_number(Errno::Enotdir);
     out[7] = errno_number(Errno::Eloop);
     out[8] = errno_number(Errno::Exdev);
-    9
+    if room < 11 {
+        return 9;
+    }
+    out[9] = errno_number(Errno::Emfile);
+    out[10] = errno_number(Errno::Enotty);
+    11
+}
+
+// Descriptors as they start, and the table check's verdict.
+#[no_mangle]
+pub extern "C" fn ventolaire_start(
+    image: &[u8],
+    slots: &mut [u64; DESCRIPTORS],
+    out: &mut [u64],
+) -> usize
+    ensures { λ r. ⌜ WritesStart (now (image .entry)) (now (slots .entry)) (now (slots .exit)) (now (out .entry)) (now (out .exit)) r × (now (image .exit) ≡ now (image .entry)) ⌝ }
+{
+    if out.len() <= 1 {
+        return 0;
+    }
+    put_verdict(out, start(image, slots));
+    2
+}
+
+// Descriptors as they start, over an image that `ventolaire_check` accepted and that has not changed since.
+#[no_mangle]
+pub extern "C" fn ventolaire_start_accepted(image: &[u8], slots: &mut [u64; DESCRIPTORS])
+    requires { ⌜ tableCheck (now image) ≡ Accepted ⌝ }
+    ensures { λ r. ⌜ (slotsBy (now (slots .exit)) ≡ start (now (image .entry))) × (now (image .exit) ≡ now (image .entry)) ⌝ }
+{
+    start_accepted(image, slots);
+}
+
+// Opens a path from a descriptor: the answer's numbers, then the number given.
+#[no_mangle]
+pub extern "C" fn ventolaire_open<'a>(
+    image: &'a [u8],
+    slots: &mut [u64; DESCRIPTORS],
+    number: u64,
+    mark: bool,
+    path: &'a [u8],
+    how: &[u8],
+    out: &mut [u64],
+) -> usize
+    ensures { λ r. ⌜ WritesReply (serve (now (image .entry)) (slotsBy (now (slots .entry))) (openPath number mark (now (path .entry)) (now (how .entry))))
+        (now (slots .entry)) (now (slots .exit)) (now (out .entry)) (now (out .exit)) r
+        × Stay (now (image .entry)) (now (path .entry)) (now (how .entry)) (now (image .exit)) (now (path .exit)) (now (how .exit)) ⌝ }
+{
+    if out.len() < 7 {
+        return 0;
+    }
+    put_reply(out, open(image, slots, number as usize, mark, path, how));
+    7
+}
+
+// The same in an image that `ventolaire_check` accepted and that has not changed since, without the table check.
+#[no_mangle]
+pub extern "C" fn ventolaire_open_accepted<'a>(
+    image: &'a [u8],
+    slots: &mut [u64; DESCRIPTORS],
+    number: u64,
+    mark: bool,
+    path: &'a [u8],
+    how: &[u8],
+    out: &mut [u64],
+) -> usize
+    requires { ⌜ tableCheck (now image) ≡ Accepted ⌝ }
+    ensures { λ r. ⌜ WritesReply (serve (now (image .entry)) (slotsBy (now (slots .entry))) (openPath number mark (now (path .entry)) (now (how .entry))))
+        (now (slots .entry)) (now (slots .exit)) (now (out .entry)) (now (out .exit)) r
+        × Stay (now (image .entry)) (now (path .entry)) (now (how .entry)) (now (image .exit)) (now (path .exit)) (now (how .exit)) ⌝ }
+{
+    if out.len() < 7 {
+        return 0;
+    }
+    put_reply(
+        out,
+        open_accepted(image, slots, number as usize, mark, path, how),
+    );
+    7
+}
+
+// Duplicates a descriptor. No table is read.
+#[no_mangle]
+pub extern "C" fn ventolaire_dup(
+    slots: &mut [u64; DESCRIPTORS],
+    number: u64,
+    out: &mut [u64],
+) -> usize
+    ensures { λ r. ⌜ ((image : List ℕ) → WritesReply (serve image (slotsBy (now (slots .entry))) (duplicate number))
+        (now (slots .entry)) (now (slots .exit)) (now (out .entry)) (now (out .exit)) r) ⌝ }
+{
+    if out.len() < 7 {
+        return 0;
+    }
+    put_reply(out, duplicate(slots, number as usize));
+    7
+}
+
+// Closes a descriptor. No table is read.
+#[no_mangle]
+pub extern "C" fn ventolaire_close(
+    slots: &mut [u64; DESCRIPTORS],
+    number: u64,
+    out: &mut [u64],
+) -> usize
+    ensures { λ r. ⌜ ((image : List ℕ) → WritesReply (serve image (slotsBy (now (slots .entry))) (close number))
+        (now (slots .entry)) (now (slots .exit)) (now (out .entry)) (now (out .exit)) r) ⌝ }
+{
+    if out.len() < 7 {
+        return 0;
+    }
+    put_reply(out, close(slots, number as usize));
+    7
+}
+
+// Marks a descriptor.
+#[no_mangle]
+pub extern "C" fn ventolaire_set_mark(
+    image: &[u8],
+    slots: &mut [u64; DESCRIPTORS],
+    number: u64,
+    out: &mut [u64],
+) -> usize
+    ensures { λ r. ⌜ WritesReply (serve (now (image .entry)) (slotsBy (now (slots .entry))) (setMark number)) (now (slots .entry)) (now (slots .exit)) (now (out .entry)) (now (out .exit)) r
+        × (now (image .exit) ≡ now (image .entry)) ⌝ }
+{
+    if out.len() < 7 {
+        return 0;
+    }
+    put_reply(out, set_mark(image, slots, number as usize));
+    7
 }

@@ -1,5 +1,7 @@
 //! The arguments: a command, if the first is one, then options.
 
+use data::unhex;
+
 pub struct Arguments(pub Vec<String>);
 
 impl Arguments {
@@ -23,14 +25,8 @@ impl Arguments {
     }
 
     pub fn bytes(&self, name: &str) -> Result<Vec<u8>, String> {
-        let text = self.text(name).unwrap_or("");
-        let bad = || format!("{name} wants bytes in hexadecimal");
-        if !text.is_ascii() || !text.len().is_multiple_of(2) {
-            return Err(bad());
-        }
-        (0..text.len() / 2)
-            .map(|at| u8::from_str_radix(&text[2 * at..2 * at + 2], 16).map_err(|_| bad()))
-            .collect()
+        unhex(self.text(name).unwrap_or(""))
+            .ok_or_else(|| format!("{name} wants bytes in hexadecimal"))
     }
 
     /// What stands behind the command and is neither an option nor its value. Every

@@ -1,10 +1,12 @@
 //! The Rust crate beside the independent resolver: what its `Table` accepts, reads
-//! and answers.
+//! and answers, and what its `Descriptors` reply.
 
 use crate::case::Case;
-use crate::generate::Cases;
+use crate::descriptors::{self, Reply};
+use crate::generate::{Cases, Wanted};
 use crate::resolver::{self, DIRECTORY, FILE, LINK, MAGIC};
-use ventolaire::{Found, Handle, Node, Refusal, Table};
+use data::sequence::Step;
+use ventolaire::{Descriptors, Found, Handle, Node, Refusal, Table};
 
 /// A node by the crate, in numbers and bytes as the resolver has them: kind,
 /// parent, names with their nodes, body, target.
@@ -65,10 +67,27 @@ fn numbers(answer: Result<Found, Refusal>) -> [u64; 6] {
     }
 }
 
+/// A call on descriptors by the crate; what it does not tell is 0.
+fn reply(descriptors: &mut Descriptors, step: &Step) -> Reply {
+    let with = |[errno, detail, mount, node, components, links]: [u64; 6], given| {
+        [errno, detail, mount, node, components, links, given]
+    };
+    let done = |given| [0, Refusal::NO_DETAIL, 0, 0, 0, 0, given];
+    let replied = match step {
+        Step::Open(open) => descriptors
+            .open_raw(open.number, open.mark, &open.path[..], &open.how)
+            .map(|opened| with(numbers(Ok(opened.found)), opened.descriptor)),
+        Step::Dup(number) => descriptors.duplicate(*number).map(done),
+        Step::Close(number) => descriptors.close(*number).map(|()| done(0)),
+        Step::SetMark(number) => descriptors.set_mark(*number).map(|()| done(0)),
+    };
+    replied.unwrap_or_else(|refusal| with(numbers(Err(refusal)), 0))
+}
+
 #[test]
 fn tables_are_accepted_and_read_alike() {
     let mut accepted = 0;
-    for numbered in Cases::new(11, 5_000, 0) {
+    for numbered in Cases::new(11, Wanted { tables: 5_000, ..Wanted::default() }) {
         let Case::Table(image) = &numbered.case else {
             continue;
         };
@@ -89,7 +108,7 @@ fn tables_are_accepted_and_read_alike() {
 #[test]
 fn calls_are_answered_alike() {
     let mut accepted = 0;
-    for numbered in Cases::new(11, 0, 10_000) {
+    for numbered in Cases::new(11, Wanted { calls: 10_000, ..Wanted::default() }) {
         let Case::Call(call) = &numbered.case else {
             continue;
         };
@@ -105,4 +124,28 @@ fn calls_are_answered_alike() {
         assert_eq!(numbers(answer), expected.numbers(), "{}", numbered.case);
     }
     assert!(accepted > 5_000, "{accepted} over accepted tables");
+}
+
+#[test]
+fn sequences_are_answered_alike() {
+    let mut calls = 0;
+    for numbered in Cases::new(11, Wanted { sequences: 500, ..Wanted::default() }) {
+        let Case::Sequence(sequence) = &numbered.case else {
+            continue;
+        };
+        let read = resolver::accept(&sequence.image).ok();
+        let Ok(table) = Table::new(&sequence.image) else {
+            assert!(read.is_none(), "{}", numbered.case);
+            continue;
+        };
+        let mut got = table.descriptors();
+        let mut expected = descriptors::Descriptors::start(read.as_ref());
+        for step in &sequence.steps {
+            calls += 1;
+            let expecting = expected.act(read.as_ref(), step);
+            assert_eq!(reply(&mut got, step), expecting, "{step} of {}", numbered.case);
+            assert!(got.numbers().eq(expected.open_ones()), "{step} of {}", numbered.case);
+        }
+    }
+    assert!(calls > 10_000, "{calls} calls");
 }

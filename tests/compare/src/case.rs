@@ -4,8 +4,9 @@ use crate::resolver::{
     self, resolve_field, resolve_with_events, second_answer, Answer, Event, Met, Place,
     Restrictions, BENEATH, IN_ROOT, NO_MAGICLINKS, NO_SYMLINKS, NO_XDEV,
 };
+use crate::sequence::{Sequence, Told};
 use crate::subject::{Handle, Lent, Subject};
-use data::worked::{call_arguments, check_arguments};
+use data::worked::{call_arguments, check_arguments, sequence_arguments};
 use std::fmt;
 
 /// The restrictions that demand 3 (RULES 12.3) may add, as bits of resolve;
@@ -25,26 +26,31 @@ pub struct Call {
     pub added_mark: bool,
 }
 
-impl Call {
-    /// The bits that are really added: none where there is no resolve field,
-    /// no BENEATH under IN_ROOT.
-    fn added_bits(&self) -> u64 {
-        match resolve_field(&self.how) {
-            None => 0,
-            Some(resolve) if resolve & IN_ROOT != 0 => self.added & ADDABLE & !BENEATH,
-            Some(_) => self.added & ADDABLE,
-        }
+/// The bits that are really added to an open_how: none where there is no resolve field,
+/// no BENEATH under IN_ROOT.
+pub fn added_bits(how: &[u8], added: u64) -> u64 {
+    match resolve_field(how) {
+        None => 0,
+        Some(resolve) if resolve & IN_ROOT != 0 => added & ADDABLE & !BENEATH,
+        Some(_) => added & ADDABLE,
     }
+}
 
+/// The open_how with these bits added.
+pub fn with_added(how: &[u8], added: u64) -> Vec<u8> {
+    let mut second = how.to_vec();
+    if let Some(byte) = second.get_mut(16) {
+        // All the bits that can be added lie in the lowest byte.
+        *byte |= added_bits(how, added) as u8;
+    }
+    second
+}
+
+impl Call {
     /// The second call of demand 3: all else alike.
     pub fn second(&self) -> Call {
-        let mut second = self.clone();
-        second.mark |= self.added_mark;
-        if let Some(byte) = second.how.get_mut(16) {
-            // All the bits that can be added lie in the lowest byte.
-            *byte |= self.added_bits() as u8;
-        }
-        second
+        let how = with_added(&self.how, self.added);
+        Call { how, mark: self.mark || self.added_mark, ..self.clone() }
     }
 
     pub fn lent(&self) -> Lent {
@@ -74,6 +80,7 @@ impl Call {
 pub enum Case {
     Table(Vec<u8>),
     Call(Call),
+    Sequence(Sequence),
 }
 
 /// The case as the arguments of `compare replay`.
@@ -87,13 +94,16 @@ impl fmt::Display for Case {
                 let added_mark = u8::from(call.added_mark);
                 write!(f, "{arguments} --added {} --added-mark {added_mark}", call.added)
             }
+            Case::Sequence(Sequence { image, steps }) => {
+                f.write_str(&sequence_arguments(image, steps))
+            }
         }
     }
 }
 
 /// What a comparison found.
 pub struct Difference {
-    pub what: &'static str,
+    pub what: String,
     pub expected: Vec<u64>,
     pub got: Vec<u64>,
 }
@@ -108,13 +118,17 @@ pub enum Alike {
         /// The event at which the added restrictions stopped the walk.
         stopped: Option<Event>,
     },
+    Sequence {
+        accepted: bool,
+        told: Vec<Told>,
+    },
 }
 
-fn same(what: &'static str, expected: &[u64], got: Vec<u64>) -> Result<(), Difference> {
+pub fn same(what: &str, expected: &[u64], got: Vec<u64>) -> Result<(), Difference> {
     if expected == got {
         return Ok(());
     }
-    Err(Difference { what, expected: expected.to_vec(), got })
+    Err(Difference { what: what.into(), expected: expected.to_vec(), got })
 }
 
 fn unchanged(before: &Lent, after: &Lent) -> Result<(), Difference> {
@@ -135,6 +149,23 @@ impl Case {
         match self {
             Case::Table(image) => compare_table(subject, image),
             Case::Call(call) => compare_call(subject, call),
+            Case::Sequence(sequence) => sequence.compare(subject),
+        }
+    }
+
+    pub fn image(&self) -> &[u8] {
+        match self {
+            Case::Table(image) => image,
+            Case::Call(call) => &call.image,
+            Case::Sequence(sequence) => &sequence.image,
+        }
+    }
+
+    pub fn with_image(&self, image: Vec<u8>) -> Case {
+        match self.clone() {
+            Case::Table(_) => Case::Table(image),
+            Case::Call(call) => Case::Call(Call { image, ..call }),
+            Case::Sequence(sequence) => Case::Sequence(Sequence { image, ..sequence }),
         }
     }
 }
@@ -149,7 +180,7 @@ fn compare_table(subject: &mut dyn Subject, image: &[u8]) -> Result<Alike, Diffe
 }
 
 fn compare_call(subject: &mut dyn Subject, call: &Call) -> Result<Alike, Difference> {
-    let mut ask = |call: &Call, expected: &Answer, what| {
+    let mut ask = |call: &Call, expected: &Answer, what: &str| {
         let lent = call.lent();
         let mut used = lent.clone();
         let got = subject.resolve(&mut used, call.handle());
@@ -162,7 +193,7 @@ fn compare_call(subject: &mut dyn Subject, call: &Call) -> Result<Alike, Differe
 
     // The second answer is worked out from the first one's events alone.
     let set = Restrictions::new(call.mark, resolve_field(&call.how).unwrap_or(0));
-    let added = Restrictions::new(call.added_mark, call.added_bits());
+    let added = Restrictions::new(call.added_mark, added_bits(&call.how, call.added));
     let second = second_answer(first, &events, set, added);
     let again = call.second();
     ask(&again, &second, "demand 3: the call with restrictions added")?;

@@ -113,4 +113,22 @@ faults! {
         "rule-7-target-outside-last";
     PointAtRoot: "a mount point may be the parent's root", "rule-6-point-root-first";
     ClashAcrossParents: "mount points clash whatever their parents", "rule-6-many-other-parent";
+    // Descriptors.
+    HighestFree: "the highest free number is given", "lowest-1";
+    LastKept: "the 64th descriptor is not given", "fill-63";
+    NumberModulo: "a number above 63 is taken modulo 64", "number-4";
+    NumberCut: "a number is cut to 32 bits", "number-7";
+    StartMarked: "descriptor 0 starts marked", "start-4";
+    MarkUnread: "an open does not read the mark of its number", "asked-2";
+    MarkShared: "a mark set later is seen on duplicates", "dup-then-set-5";
+    MarkDropped: "a duplicate drops the mark", "dup-marked-3";
+    MarkInherited: "what is opened through a marked descriptor is marked", "through-3";
+    AcceptedUnmarked: "the open that wants an accepted image forgets the mark asked for", "asked-2";
+    MarkAnything: "the mark is set on what is no directory", "set-8";
+    MarkBeforeNumber: "the mark's EINVAL comes before EBADF", "number-38";
+    MarkAfterWalk: "the mark's EINVAL comes after the resolver's refusal", "asked-order-1";
+    FullFirst: "EMFILE comes before the resolver's refusal", "fill-71";
+    FullCounts: "EMFILE carries the counts of the walk", "fill-64";
+    RefusalCloses: "a refused open closes its number", "leaves-5";
+    RefusedFirst: "an open over a refused table is EUCLEAN, not EBADF", "start-refused-1";
 }

@@ -1,4 +1,4 @@
-//! Compares Ventolaire's resolver with an independent second one over many
+//! Compares Ventolaire's resolver and descriptors with independent second ones over many
 //! seeded inputs, and both with the list of worked cases. `compare --help` has
 //! the commands.
 //!
@@ -15,12 +15,14 @@ mod arguments;
 #[cfg(all(test, feature = "subject"))]
 mod binding;
 mod case;
+mod descriptors;
 mod faults;
 mod faulty;
 mod generate;
 mod plant;
 mod report;
 mod resolver;
+mod sequence;
 mod shrink;
 mod stats;
 mod subject;
@@ -29,38 +31,42 @@ mod worked;
 
 use arguments::Arguments;
 use case::{Call, Case};
-use generate::Cases;
+use generate::{Cases, Wanted};
 use report::{describe, print_difference, report};
+use sequence::Sequence;
 use stats::Stats;
 use std::process::ExitCode;
 use std::sync::Mutex;
 use std::time::{Duration, Instant};
-use subject::Subject;
+use subject::{Subject, Way};
 
 const HELP: &str = "\
-Compares the resolver with an independent second one.
+Compares the resolver and the descriptors with independent second ones.
 
-compare [--seed N] [--calls N] [--tables N] [--seconds N] [--stats] [--announce]
+compare [--seed N] [--calls N] [--tables N] [--sequences N] [--seconds N] [--stats] [--announce]
 compare replay --image HEX [[--mount N] [--node N] [--mark 0|1] --path HEX --how HEX
                [--added N] [--added-mark 0|1]]
-compare show [--seed N] --call N | --table N
+compare replay --image HEX --sequence CALL[,CALL]..
+compare show [--seed N] --call N | --table N | --sequence N
 compare cases FILE
 compare faults [--seed N] [--cases FILE]
 compare --help
 
 Without a command, inputs are made from the seed, 1 if not given: as many as said, or as many as
-take so many seconds. A difference is shrunk and printed as the arguments of `compare replay`, which
-shows both answers to it. `compare show` prints one input of a run. `compare cases` asks both sides
-for the answers to the list of worked cases, crates/cases/stdin. `compare faults` plants faults in a
-resolver and sees that each is found by the comparison, and with a list of cases also by the case
-that it is known to be found by. In a build without the library, `--fault NAME` plants one of them.
+take so many seconds. A sequence is up to 200 calls on descriptors. A difference is shrunk and
+printed as the arguments of `compare replay`, which shows both answers to it; a CALL on descriptors
+is open:NUMBER:MARK:PATH:HOW[:ADDED:ADDED_MARK] with the bytes in hexadecimal, dup:NUMBER,
+close:NUMBER or set_mark:NUMBER. `compare show` prints one input of a run. `compare cases` asks both
+sides for the answers to the list of worked cases, crates/cases/stdin. `compare faults` plants
+faults in a resolver and sees that each is found by the comparison, and with a list of cases also by
+the case that it is known to be found by. In a build without the library, `--fault NAME` plants one
+of them.
 
 The last line counts what passed and what failed. The status is 0, 1 if anything failed, 2 if the
 arguments or a file are wrong.
 ";
 
-const CALLS: u64 = 300_000;
-const TABLES: u64 = 100_000;
+const USUAL: Wanted = Wanted { tables: 100_000, calls: 300_000, sequences: 30_000 };
 /// After so many differences a run ends.
 const MOST_DIFFERENCES: u64 = 3;
 /// A case that takes longer has not ended.
@@ -135,29 +141,31 @@ fn watch(seed: u64) {
 /// What a run is asked for.
 struct Run {
     seed: u64,
-    calls: u64,
-    tables: u64,
+    wanted: Wanted,
     longest: Option<Duration>,
     announce: bool,
 }
 
 impl Run {
     fn of(arguments: &Arguments) -> Result<Run, String> {
-        let flags = ["--stats", "--announce"];
-        arguments.known(&flags, &["--seed", "--calls", "--tables", "--seconds", "--fault"])?;
+        let counts = ["--tables", "--calls", "--sequences"];
+        let options = [&counts[..], &["--seed", "--seconds", "--fault"]].concat();
+        arguments.known(&["--stats", "--announce"], &options)?;
         let seconds = arguments.number("--seconds")?;
+        let is_counted = counts.iter().any(|name| arguments.flag(name));
         // With a time given alone, it is the time that ends the run.
-        let timed = |usual| if seconds.is_some() { u64::MAX } else { usual };
-        let calls = arguments.number("--calls")?;
-        let tables = arguments.number("--tables")?;
-        let (calls, tables) = match (calls, tables) {
-            (None, None) => (timed(CALLS), timed(TABLES)),
-            (calls, tables) => (calls.unwrap_or(CALLS), tables.unwrap_or(TABLES)),
+        let count = |name, usual| {
+            let usual = if seconds.is_some() && !is_counted { u64::MAX } else { usual };
+            Ok::<u64, String>(arguments.number(name)?.unwrap_or(usual))
+        };
+        let wanted = Wanted {
+            tables: count("--tables", USUAL.tables)?,
+            calls: count("--calls", USUAL.calls)?,
+            sequences: count("--sequences", USUAL.sequences)?,
         };
         Ok(Run {
             seed: arguments.number("--seed")?.unwrap_or(1),
-            calls,
-            tables,
+            wanted,
             longest: seconds.map(Duration::from_secs),
             announce: arguments.flag("--announce"),
         })
@@ -168,7 +176,7 @@ impl Run {
         let since = Instant::now();
         let mut stats = Stats::default();
         let mut failed = 0;
-        for numbered in Cases::new(self.seed, self.tables, self.calls) {
+        for numbered in Cases::new(self.seed, self.wanted) {
             if self.longest.is_some_and(|longest| since.elapsed() >= longest) {
                 break;
             }
@@ -203,48 +211,74 @@ fn run(arguments: &Arguments) -> Result<bool, String> {
     }
     println!(
         "seed {}: {} tables checked, {} of them accepted; {} calls, {} of them found, \
-         each with a second call, {} of these stopped by an added restriction; {:.1} s",
+         each with a second call, {} of these stopped by an added restriction; {} sequences \
+         of {} calls on descriptors, {} of them with all 64 open; {:.1} s",
         run.seed,
         stats.tables,
         stats.accepted,
         stats.calls,
         stats.found,
         stats.stopped,
+        stats.descriptors.sequences,
+        stats.descriptors.steps,
+        stats.descriptors.filled,
         since.elapsed().as_secs_f64()
     );
     println!("{} passed, {failed} failed", stats.cases());
     Ok(failed == 0)
 }
 
+/// The case that the arguments of `compare replay` tell.
+fn given(arguments: &Arguments) -> Result<Case, String> {
+    let numbers = ["--mount", "--node", "--mark", "--added", "--added-mark"];
+    let bytes = ["--image", "--path", "--how"];
+    arguments.known(&[], &[&numbers[..], &bytes, &["--sequence", "--fault"]].concat())?;
+    let image = arguments.bytes("--image")?;
+    let is_call = arguments.flag("--path") || arguments.flag("--how");
+    if let Some(steps) = arguments.text("--sequence") {
+        if is_call || numbers.iter().any(|name| arguments.flag(name)) {
+            return Err("--sequence stands with --image alone".into());
+        }
+        return Ok(Case::Sequence(Sequence { image, steps: data::sequence::read(steps)? }));
+    }
+    if !is_call {
+        return Ok(Case::Table(image));
+    }
+    let number = |name| Ok::<u64, String>(arguments.number(name)?.unwrap_or(0));
+    Ok(Case::Call(Call {
+        image,
+        mount: number("--mount")?,
+        node: number("--node")?,
+        mark: number("--mark")? != 0,
+        path: arguments.bytes("--path")?,
+        how: arguments.bytes("--how")?,
+        added: number("--added")?,
+        added_mark: number("--added-mark")? != 0,
+    }))
+}
+
 /// Both answers to one given case.
 fn replay(arguments: &Arguments) -> Result<bool, String> {
-    let numbers = ["--mount", "--node", "--mark", "--added", "--added-mark"];
-    let options = [&numbers[..], &["--image", "--path", "--how", "--fault"]].concat();
-    arguments.known(&[], &options)?;
-    let image = arguments.bytes("--image")?;
+    let case = given(arguments)?;
     let mut subject = subject(arguments)?;
-    let number = |name| Ok::<u64, String>(arguments.number(name)?.unwrap_or(0));
-    let [mount, node, mark, added, added_mark] = numbers.map(number);
-    let case = if arguments.flag("--path") || arguments.flag("--how") {
-        Case::Call(Call {
-            image: image.clone(),
-            mount: mount?,
-            node: node?,
-            mark: mark? != 0,
-            path: arguments.bytes("--path")?,
-            how: arguments.bytes("--how")?,
-            added: added?,
-            added_mark: added_mark? != 0,
-        })
-    } else {
-        Case::Table(image.clone())
-    };
     println!("check:");
-    println!("  expected {:?}", resolver::check(&image));
-    println!("  got      {:?}", subject.check(&mut image.clone()));
-    if let Case::Call(call) = &case {
-        answers("resolve", call, subject.as_mut());
-        answers("with the added ones", &call.second(), subject.as_mut());
+    println!("  expected {:?}", resolver::check(case.image()));
+    println!("  got      {:?}", subject.check(&mut case.image().to_vec()));
+    match &case {
+        Case::Table(_) => {}
+        Case::Call(call) => {
+            answers("resolve", call, subject.as_mut());
+            answers("with the added ones", &call.second(), subject.as_mut());
+        }
+        Case::Sequence(sequence) => {
+            let (got, _) = sequence.got(subject.as_mut(), Way::CHECKED);
+            // The start's is the check's.
+            let replies = sequence.expected().into_iter().zip(got).skip(1);
+            for ((number, step), (expected, got)) in sequence.steps.iter().enumerate().zip(replies)
+            {
+                println!("call {number}, {step}:\n  expected {expected:?}\n  got      {got:?}");
+            }
+        }
     }
     describe(&case);
     let compared = case.compare(subject.as_mut());
@@ -269,14 +303,18 @@ fn answers(title: &str, call: &Call, subject: &mut dyn Subject) {
 
 /// The bytes of one case of a run, without comparing it.
 fn show(arguments: &Arguments) -> Result<bool, String> {
-    arguments.known(&[], &["--seed", "--call", "--table"])?;
+    arguments.known(&[], &["--seed", "--call", "--table", "--sequence"])?;
     let seed = arguments.number("--seed")?.unwrap_or(1);
-    let case = match (arguments.number("--call")?, arguments.number("--table")?) {
-        (Some(number), None) => generate::one(seed, "call", number),
-        (None, Some(number)) => generate::one(seed, "table", number),
+    let mut numbers = Vec::new();
+    for stream in ["call", "table", "sequence"] {
+        let number = arguments.number(&format!("--{stream}"))?;
+        numbers.extend(number.map(|number| (stream, number)));
+    }
+    let case = match numbers[..] {
+        [(stream, number)] => generate::one(seed, stream, number),
         _ => None,
     };
-    let case = case.ok_or("show wants --call N or --table N")?;
+    let case = case.ok_or("show wants --call N, --table N or --sequence N")?;
     describe(&case);
     println!("replay {case}");
     Ok(true)

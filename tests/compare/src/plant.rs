@@ -2,16 +2,16 @@
 
 use crate::arguments::Arguments;
 use crate::faults::Fault;
-use crate::generate::{Cases, Numbered};
+use crate::generate::{Cases, Numbered, Wanted};
 use crate::subject::Planted;
 use crate::worked::{self, Worked};
-use crate::{CALLS, TABLES};
+use crate::USUAL;
 
 /// How the comparison finds a fault: after how many cases, and at which.
 fn found_by_comparing(fault: Fault, seed: u64) -> Option<String> {
     let mut subject = Planted(Some(fault));
     let mut compared = 0u64;
-    Cases::new(seed, TABLES, CALLS).find_map(|numbered| {
+    Cases::new(seed, USUAL).find_map(|numbered| {
         compared += 1;
         let difference = numbered.case.compare(&mut subject).err()?;
         Some(format!(
@@ -23,9 +23,7 @@ fn found_by_comparing(fault: Fault, seed: u64) -> Option<String> {
 
 /// How many of the worked cases find a fault, and the one that the list names.
 fn found_by_cases(fault: Fault, cases: &[Worked]) -> Option<String> {
-    let mut subject = Planted(Some(fault));
-    let finds = |worked: &&Worked| worked.compare_subject(&mut subject).is_err();
-    let found: Vec<&str> = cases.iter().filter(finds).map(Worked::name).collect();
+    let found = worked::answered_otherwise(cases, &mut Planted(Some(fault)));
     let named = found.iter().find(|name| **name == fault.found_by())?;
     Some(format!("by {}, among them {named}", found.len()))
 }
@@ -51,7 +49,9 @@ pub fn run(arguments: &Arguments) -> Result<bool, String> {
     // And nothing is found where there is no fault.
     let mut subject = Planted(None);
     let alike = |numbered: Numbered| numbered.case.compare(&mut subject).is_ok();
-    let none = Cases::new(seed, TABLES / 10, CALLS / 10).all(alike);
+    let Wanted { tables, calls, sequences } = USUAL;
+    let fewer = Wanted { tables: tables / 10, calls: calls / 10, sequences: sequences / 10 };
+    let none = Cases::new(seed, fewer).all(alike);
     println!("with no fault");
     println!("  compared: {}", count(none.then(|| "no difference".into())));
     println!("{passed} passed, {failed} failed");

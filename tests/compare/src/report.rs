@@ -1,6 +1,6 @@
 //! Differences and cases, told.
 
-use crate::case::{Case, Difference};
+use crate::case::{Call, Case, Difference};
 use crate::generate::Numbered;
 use crate::resolver;
 use crate::shrink;
@@ -8,6 +8,7 @@ use crate::subject::Subject;
 use crate::tree;
 use data::hex;
 use data::image::{Mount, Node};
+use data::sequence::Step;
 
 pub fn print_difference(difference: &Difference) {
     println!("  {}", difference.what);
@@ -31,11 +32,7 @@ pub fn report(seed: u64, numbered: &Numbered, difference: &Difference, subject: 
 
 /// The case in words, as far as its table can be read.
 pub fn describe(case: &Case) {
-    let image = match case {
-        Case::Table(image) => image,
-        Case::Call(call) => &call.image,
-    };
-    if let Ok(table) = resolver::accept(image) {
+    if let Ok(table) = resolver::accept(case.image()) {
         let tree = tree::of(&table);
         for (number, node) in tree.nodes.iter().enumerate() {
             println!("  node {number}: {}", in_words(node));
@@ -44,21 +41,42 @@ pub fn describe(case: &Case) {
             println!("  mount {number}: root {root}, on ({parent},{point})");
         }
     }
-    if let Case::Call(call) = case {
-        println!(
-            "  handle ({},{}){}, path \"{}\"",
-            call.mount,
-            call.node,
-            if call.mark { " marked" } else { "" },
-            call.path.escape_ascii()
-        );
-        println!(
-            "  open_how {}; added resolve {:#x}{}",
-            hex(&call.how),
-            call.added,
-            if call.added_mark { " and the mark" } else { "" }
-        );
+    match case {
+        Case::Table(_) => {}
+        Case::Call(call) => describe_call(call),
+        Case::Sequence(sequence) => {
+            for (number, step) in sequence.steps.iter().enumerate() {
+                println!("  call {number}: {}", call_in_words(step));
+            }
+        }
     }
+}
+
+fn describe_call(call: &Call) {
+    println!(
+        "  handle ({},{}){}, path \"{}\"",
+        call.mount,
+        call.node,
+        if call.mark { " marked" } else { "" },
+        call.path.escape_ascii()
+    );
+    println!("  open_how {}; {}", hex(&call.how), added(call.added, call.added_mark));
+}
+
+fn added(resolve: u64, mark: bool) -> String {
+    format!("added resolve {resolve:#x}{}", if mark { " and the mark" } else { "" })
+}
+
+fn call_in_words(step: &Step) -> String {
+    let name = format!("{} {}", step.name(), step.number());
+    let Step::Open(open) = step else { return name };
+    let asked = if open.mark { ", the mark asked" } else { "" };
+    let path = open.path.escape_ascii();
+    let second = match (open.added, open.added_mark) {
+        (0, false) => String::new(),
+        (resolve, mark) => format!("; {}", added(resolve, mark)),
+    };
+    format!("{name}{asked}, path \"{path}\", open_how {}{second}", hex(&open.how))
 }
 
 fn in_words(node: &Node) -> String {

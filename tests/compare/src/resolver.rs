@@ -379,7 +379,7 @@ pub enum Answer {
 
 impl Answer {
     /// A refusal before the walk.
-    fn refused(errno: u64, detail: u64) -> Answer {
+    pub fn refused(errno: u64, detail: u64) -> Answer {
         Answer::Refused { errno, detail, components: 0, links: 0 }
     }
 
@@ -506,6 +506,11 @@ struct OpenHow {
 /// The resolve field, if there are bytes enough to hold one.
 pub fn resolve_field(how: &[u8]) -> Option<u64> {
     how.get(16..24).map(value)
+}
+
+/// The flags of an open_how that has its 24 bytes.
+pub fn flags_field(how: &[u8]) -> Option<u64> {
+    how.get(..24).map(|fields| value(&fields[..8]))
 }
 
 /// The open_how check; a refusal is errno and detail.

@@ -5,7 +5,9 @@ use crate::resolver::accept;
 use crate::subject::Subject;
 use crate::tree;
 use data::fields::{get, set};
+use data::how;
 use data::image::{Entry, Node, Tree};
+use data::sequence::{Open, Step};
 use std::time::{Duration, Instant};
 
 const MOST_TRIES: usize = 20_000;
@@ -45,35 +47,43 @@ impl Shrinker<'_> {
 
     /// Changes the call of the best case, if it is one.
     fn attempt_call(&mut self, change: impl FnOnce(&mut Call)) -> bool {
-        match self.best.clone() {
-            Case::Call(mut call) => {
-                change(&mut call);
-                self.attempt(Case::Call(call))
-            }
-            Case::Table(_) => false,
+        let mut candidate = self.best.clone();
+        if let Case::Call(call) = &mut candidate {
+            change(call);
         }
+        self.attempt(candidate)
     }
 
-    fn image(&self) -> &[u8] {
-        match &self.best {
-            Case::Table(image) => image,
-            Case::Call(call) => &call.image,
+    /// Changes the calls of the best case, if it is a sequence.
+    fn attempt_steps(&mut self, change: impl FnOnce(&mut Vec<Step>)) -> bool {
+        let mut candidate = self.best.clone();
+        if let Case::Sequence(sequence) = &mut candidate {
+            change(&mut sequence.steps);
         }
+        self.attempt(candidate)
+    }
+
+    /// Changes one of the best case's calls that have a path.
+    fn attempt_parts(&mut self, index: usize, change: impl FnOnce(&mut Parts)) -> bool {
+        let mut candidate = self.best.clone();
+        if let Some(parts) = parts(&mut candidate).get_mut(index) {
+            change(parts);
+        }
+        self.attempt(candidate)
     }
 
     /// All the ways once; whether one of them helped.
     fn pass(&mut self) -> bool {
         let before = self.best.clone();
-        self.attempt_call(|call| call.mark = false);
-        self.attempt_call(|call| call.added_mark = false);
-        for bit in 0..4 {
-            self.attempt_call(|call| call.added &= !(1 << bit));
-        }
+        self.drop_steps();
+        self.shrink_steps();
         self.attempt_call(|call| call.mount = 0);
         self.attempt_call(|call| call.node = 0);
-        self.shrink_how();
-        self.shrink_path();
-        if accept(self.image()).is_ok() {
+        let with_a_path = parts(&mut self.best).len();
+        for index in 0..with_a_path {
+            self.shrink_parts(index);
+        }
+        if accept(self.best.image()).is_ok() {
             self.shrink_table();
         } else {
             self.shrink_bytes();
@@ -81,31 +91,78 @@ impl Shrinker<'_> {
         self.best != before
     }
 
-    fn shrink_how(&mut self) {
-        self.attempt_call(|call| call.how.truncate(24));
-        let length = match &self.best {
-            Case::Call(call) => call.how.len(),
-            Case::Table(_) => 0,
-        };
+    fn steps(&self) -> &[Step] {
+        match &self.best {
+            Case::Sequence(sequence) => &sequence.steps,
+            _ => &[],
+        }
+    }
+
+    /// Takes out runs of calls, long ones first.
+    fn drop_steps(&mut self) {
+        let mut run = self.steps().len();
+        while run > 0 {
+            let mut at = 0;
+            while at < self.steps().len() && !self.spent() {
+                let end = (at + run).min(self.steps().len());
+                let dropped = self.attempt_steps(|steps| drop(steps.drain(at..end)));
+                at += if dropped { 0 } else { run };
+            }
+            run /= 2;
+        }
+    }
+
+    /// Lower numbers, and duplicates for opens that only take a number.
+    fn shrink_steps(&mut self) {
+        for at in 0..self.steps().len() {
+            if matches!(self.steps()[at], Step::Open(_)) {
+                self.attempt_steps(|steps| steps[at] = Step::Dup(steps[at].number()));
+            }
+            self.attempt_steps(|steps| *steps[at].number_mut() = 0);
+            self.attempt_steps(|steps| {
+                let number = steps[at].number_mut();
+                *number = number.saturating_sub(1);
+            });
+        }
+    }
+
+    /// Fewer restrictions, a plainer open_how and a shorter path.
+    fn shrink_parts(&mut self, index: usize) {
+        self.attempt_parts(index, |parts| *parts.mark = false);
+        self.attempt_parts(index, |parts| *parts.added_mark = false);
+        for bit in 0..4 {
+            self.attempt_parts(index, |parts| *parts.added &= !(1 << bit));
+        }
+        self.shrink_how(index);
+        self.shrink_path(index);
+    }
+
+    fn shrink_how(&mut self, index: usize) {
+        self.attempt_parts(index, |parts| *parts.how = how(0, 0));
+        self.attempt_parts(index, |parts| parts.how.truncate(24));
+        let length = parts(&mut self.best).get(index).map_or(0, |parts| parts.how.len());
         for at in 0..length {
-            self.attempt_call(|call| call.how[at] = 0);
+            self.attempt_parts(index, |parts| parts.how[at] = 0);
             for bit in 0..8 {
-                self.attempt_call(|call| call.how[at] &= !(1 << bit));
+                self.attempt_parts(index, |parts| parts.how[at] &= !(1 << bit));
             }
         }
     }
 
+    fn path(&mut self, index: usize) -> Option<Vec<u8>> {
+        parts(&mut self.best).get(index).map(|parts| parts.path.clone())
+    }
+
     /// Takes out runs of components, long ones first, then slashes.
-    fn shrink_path(&mut self) {
+    fn shrink_path(&mut self, index: usize) {
         let mut length = usize::MAX;
-        while let Case::Call(call) = &self.best {
-            let path = call.path.clone();
-            let parts: Vec<&[u8]> = path.split(|byte| *byte == b'/').collect();
-            length = length.min(parts.len());
-            let helped = (0..parts.len()).any(|from| {
-                let rest = parts.get(from + length..).unwrap_or(&[]);
-                let kept = [&parts[..from], rest].concat().join(&b'/');
-                self.attempt_call(|call| call.path = kept)
+        while let Some(path) = self.path(index) {
+            let components: Vec<&[u8]> = path.split(|byte| *byte == b'/').collect();
+            length = length.min(components.len());
+            let helped = (0..components.len()).any(|from| {
+                let rest = components.get(from + length..).unwrap_or(&[]);
+                let kept = [&components[..from], rest].concat().join(&b'/');
+                self.attempt_parts(index, |parts| *parts.path = kept)
             });
             if !helped && length <= 1 {
                 break;
@@ -122,24 +179,20 @@ impl Shrinker<'_> {
         if accept(&image).is_err() {
             return false;
         }
-        let candidate = match self.best.clone() {
-            Case::Table(_) => Case::Table(image),
-            Case::Call(mut call) => {
-                call.image = image;
-                change(&mut call);
-                Case::Call(call)
-            }
-        };
+        let mut candidate = self.best.with_image(image);
+        if let Case::Call(call) = &mut candidate {
+            change(call);
+        }
         self.attempt(candidate)
     }
 
     fn shrink_table(&mut self) {
-        let Ok(table) = accept(self.image()) else {
+        let Ok(table) = accept(self.best.image()) else {
             return;
         };
         let mut tree = tree::of(&table);
         // From here on the image is the tree's.
-        if self.image() != tree.shared_image() && !self.attempt_tree(&tree, |_| {}) {
+        if self.best.image() != tree.shared_image() && !self.attempt_tree(&tree, |_| {}) {
             return;
         }
         self.shrink_nodes(&mut tree);
@@ -193,7 +246,7 @@ impl Shrinker<'_> {
         let Some(candidate) = candidate else { return };
         let is_named = match &self.best {
             Case::Call(call) => *field(&mut call.clone()) == gone,
-            Case::Table(_) => false,
+            _ => false,
         };
         let lower = |call: &mut Call| *field(call) -= u64::from(*field(call) > gone);
         if !is_named && self.attempt_tree(&candidate, lower) {
@@ -240,40 +293,65 @@ impl Shrinker<'_> {
 
     /// For an image that is refused: fewer records and bytes, more zeros.
     fn shrink_bytes(&mut self) {
-        let with = |best: &Case, image: Vec<u8>| match best {
-            Case::Table(_) => Case::Table(image),
-            Case::Call(call) => Case::Call(Call { image, ..call.clone() }),
-        };
-        for length in [0, 19, 20, self.image().len() / 2] {
-            let mut image = self.image().to_vec();
+        for length in [0, 19, 20, self.best.image().len() / 2] {
+            let mut image = self.best.image().to_vec();
             image.truncate(length);
-            self.attempt(with(&self.best, image));
+            self.attempt(self.best.with_image(image));
         }
         for part in 0..4 {
             let mut index = 0;
-            while let Some(image) = without_record(self.image(), part, index) {
+            while let Some(image) = without_record(self.best.image(), part, index) {
                 if self.spent() {
                     return;
                 }
-                if !self.attempt(with(&self.best, image)) {
+                if !self.attempt(self.best.with_image(image)) {
                     index += 1;
                 }
             }
         }
-        let mut run = self.image().len();
+        let mut run = self.best.image().len();
         while run > 0 {
             let mut at = 0;
-            while at < self.image().len() {
+            while at < self.best.image().len() {
                 if self.spent() {
                     return;
                 }
-                let mut image = self.image().to_vec();
+                let mut image = self.best.image().to_vec();
                 let end = (at + run).min(image.len());
                 image[at..end].fill(0);
-                self.attempt(with(&self.best, image));
+                self.attempt(self.best.with_image(image));
                 at += run;
             }
             run /= 2;
+        }
+    }
+}
+
+/// What of a call can be made smaller wherever it stands.
+struct Parts<'a> {
+    mark: &'a mut bool,
+    path: &'a mut Vec<u8>,
+    how: &'a mut Vec<u8>,
+    added: &'a mut u64,
+    added_mark: &'a mut bool,
+}
+
+/// The calls of a case that have a path: itself, or the opens of a sequence.
+fn parts(case: &mut Case) -> Vec<Parts<'_>> {
+    match case {
+        Case::Table(_) => Vec::new(),
+        Case::Call(Call { mark, path, how, added, added_mark, .. }) => {
+            vec![Parts { mark, path, how, added, added_mark }]
+        }
+        Case::Sequence(sequence) => {
+            let steps = sequence.steps.iter_mut();
+            let opens = steps.filter_map(|step| match step {
+                Step::Open(Open { mark, path, how, added, added_mark, .. }) => {
+                    Some(Parts { mark, path, how, added, added_mark })
+                }
+                _ => None,
+            });
+            opens.collect()
         }
     }
 }
@@ -312,22 +390,40 @@ fn shorter(body: &[u8]) -> Vec<Vec<u8>> {
 mod tests {
     use super::*;
     use crate::faults::Fault;
-    use crate::generate::Cases;
+    use crate::generate::{Cases, Wanted};
     use crate::subject::Planted;
+
+    /// A difference that a fault gives, and what is left of it.
+    fn shrunk(fault: Fault) -> (Case, Case) {
+        let mut subject = Planted(Some(fault));
+        let case = Cases::new(3, Wanted { tables: 5_000, calls: 15_000, sequences: 1_000 })
+            .map(|numbered| numbered.case)
+            .find(|case| case.compare(&mut subject).is_err());
+        let case = case.expect("a difference");
+        let small = shrink(&mut subject, &case);
+        assert!(small.compare(&mut subject).is_err());
+        (case, small)
+    }
 
     #[test]
     fn a_shrunk_case_still_differs() {
         for fault in
             [Fault::HandleByNode, Fault::MagicEnters, Fault::EarlierName, Fault::TailIgnored]
         {
-            let mut subject = Planted(Some(fault));
-            let case = Cases::new(3, 5_000, 15_000)
-                .map(|numbered| numbered.case)
-                .find(|case| case.compare(&mut subject).is_err());
-            let case = case.expect("a difference");
-            let small = shrink(&mut subject, &case);
-            assert!(small.compare(&mut subject).is_err());
+            let (case, small) = shrunk(fault);
             assert!(format!("{small}").len() <= format!("{case}").len());
+        }
+    }
+
+    #[test]
+    fn a_shrunk_sequence_has_few_calls() {
+        for (fault, most) in
+            [(Fault::HighestFree, 1), (Fault::RefusalCloses, 1), (Fault::MarkShared, 3)]
+        {
+            let (case, small) = shrunk(fault);
+            let Case::Sequence(sequence) = small else { panic!("{fault:?}: {case}") };
+            let steps = sequence.steps.len();
+            assert!(steps <= most, "{fault:?}: {}", Case::Sequence(sequence));
         }
     }
 }

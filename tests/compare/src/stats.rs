@@ -1,7 +1,11 @@
 //! How often each kind of answer, rule, event and count occurred.
 
+mod sequences;
+
 use crate::case::Alike;
+use crate::descriptors::{EMFILE, ENOTTY};
 use crate::resolver::{Answer, Event, Met};
+use sequences::Sequences;
 use std::collections::BTreeMap;
 use std::fmt::Display;
 
@@ -21,6 +25,15 @@ pub struct Stats {
     stops: BTreeMap<&'static str, u64>,
     components: BTreeMap<(u64, String), u64>,
     links: BTreeMap<(u64, String), u64>,
+    pub descriptors: Sequences,
+}
+
+fn share(count: u64, of: u64) -> f64 {
+    100.0 * count as f64 / of.max(1) as f64
+}
+
+fn line(label: &dyn Display, count: u64, of: u64) {
+    println!("  {label:<30} {count:>9}  {:>6.2} %", share(count, of));
 }
 
 const fn errno_name(errno: u64) -> &'static str {
@@ -32,6 +45,8 @@ const fn errno_name(errno: u64) -> &'static str {
         18 => "EXDEV",
         20 => "ENOTDIR",
         22 => "EINVAL",
+        EMFILE => "EMFILE",
+        ENOTTY => "ENOTTY",
         36 => "ENAMETOOLONG",
         40 => "ELOOP",
         117 => "EUCLEAN",
@@ -66,7 +81,7 @@ fn range(count: u64, bounds: &[u64]) -> (u64, String) {
 
 impl Stats {
     pub fn cases(&self) -> u64 {
-        self.tables + self.calls
+        self.tables + self.calls + self.descriptors.sequences
     }
 
     pub fn note(&mut self, alike: &Alike) {
@@ -90,6 +105,7 @@ impl Stats {
                     *self.stops.entry(event_name(*event)).or_default() += 1;
                 }
             }
+            Alike::Sequence { accepted, told } => self.descriptors.note(*accepted, told),
         }
     }
 
@@ -148,14 +164,10 @@ impl Stats {
             .map(event_name)
             .filter(|name| !self.events.contains_key(name) || !self.stops.contains_key(name))
             .map(String::from);
-        rules.chain(answers).chain(events).collect()
+        rules.chain(answers).chain(events).chain(self.descriptors.missing()).collect()
     }
 
     pub fn print(&self) {
-        let share = |count: u64, of: u64| 100.0 * count as f64 / of.max(1) as f64;
-        let line = |label: &dyn Display, count: u64, of: u64| {
-            println!("  {label:<28} {count:>9}  {:>6.2} %", share(count, of));
-        };
         println!("table checks, by the rule broken:");
         for ((rule, which), count) in &self.rules {
             let label = match rule {
@@ -164,6 +176,12 @@ impl Stats {
             };
             line(&label, *count, self.tables);
         }
+        self.print_answers();
+        self.print_walks();
+        self.descriptors.print();
+    }
+
+    fn print_answers(&self) {
         println!("calls, by the first answer:");
         for ((errno, walked), count) in &self.first {
             let when = if *walked { "" } else { ", before the walk" };
@@ -177,9 +195,12 @@ impl Stats {
         for (errno, count) in &self.second {
             line(&errno_name(*errno), *count, self.calls);
         }
+    }
+
+    fn print_walks(&self) {
         println!("events met (all, and the share of calls that met one):");
         for (name, (all, calls)) in &self.events {
-            println!("  {name:<28} {all:>9}  {:>6.2} %", share(*calls, self.calls));
+            println!("  {name:<30} {all:>9}  {:>6.2} %", share(*calls, self.calls));
         }
         println!("second calls stopped by an added restriction, by the event:");
         for (name, count) in &self.stops {

@@ -1,8 +1,10 @@
 //! What is compared with the resolver: the library through its C functions,
 //! or the faulty resolver.
 
+use crate::descriptors::SLOTS;
 use crate::faults::Fault;
 use crate::faulty;
+use data::sequence::Step;
 
 /// The bytes lent to a call. They are handed over as bytes that could be
 /// written, so that a subject that writes to them is seen.
@@ -20,11 +22,32 @@ pub struct Handle {
     pub mark: bool,
 }
 
-/// Each function gives the numbers that the subject wrote: two for a check,
-/// six for a call.
+/// The 64 numbers that a table of descriptors is, 0 for a closed one.
+pub type Slots = [u64; SLOTS];
+
+/// How a call on descriptors is made: by the function that wants an accepted image, where
+/// there is one, or by the other; and room for how many numbers it is given.
+#[derive(Clone, Copy)]
+pub struct Way {
+    pub accepted: bool,
+    pub room: usize,
+}
+
+impl Way {
+    pub const CHECKED: Way = Way { accepted: false, room: 7 };
+    pub const ACCEPTED: Way = Way { accepted: true, ..Way::CHECKED };
+}
+
+/// Each function gives the numbers that the subject wrote: two for a check or a start, six
+/// for a call, seven for one on descriptors.
 pub trait Subject {
     fn check(&mut self, image: &mut [u8]) -> Vec<u64>;
     fn resolve(&mut self, lent: &mut Lent, handle: Handle) -> Vec<u64>;
+    fn start(&mut self, image: &mut [u8], slots: &mut Slots, room: usize) -> Vec<u64>;
+    /// The image must be accepted.
+    fn start_accepted(&mut self, image: &mut [u8], slots: &mut Slots);
+    /// A call on descriptors. Path and open_how of an open are lent like the image.
+    fn act(&mut self, image: &mut [u8], slots: &mut Slots, step: &mut Step, way: Way) -> Vec<u64>;
 }
 
 /// The second shape of the resolver, with a fault planted or none.
@@ -40,69 +63,29 @@ impl Subject for Planted {
         let place = (handle.mount, handle.node);
         faulty::resolve(self.0, image, place, handle.mark, path, how).to_vec()
     }
+
+    fn start(&mut self, image: &mut [u8], slots: &mut Slots, room: usize) -> Vec<u64> {
+        if room < 2 {
+            return Vec::new();
+        }
+        self.start_accepted(image, slots);
+        self.check(image)
+    }
+
+    fn start_accepted(&mut self, image: &mut [u8], slots: &mut Slots) {
+        *slots = faulty::start(self.0, image);
+    }
+
+    fn act(&mut self, image: &mut [u8], slots: &mut Slots, step: &mut Step, way: Way) -> Vec<u64> {
+        if way.room < 7 {
+            return Vec::new();
+        }
+        faulty::act(self.0, image, slots, step, way.accepted).to_vec()
+    }
 }
 
 #[cfg(feature = "subject")]
 pub use linked::Linked;
 
 #[cfg(feature = "subject")]
-mod linked {
-    use super::{Handle, Lent, Subject};
-    use ventolaire_sys::{ventolaire_check, ventolaire_resolve};
-    // It is this crate that has the library linked.
-    use ventolaire as _;
-
-    /// What stands in the output before a call, and must still stand behind
-    /// the numbers written after it.
-    const UNTOUCHED: u64 = 0xA5A5_5A5A_C3C3_3C3C;
-    const ROOM: usize = 10;
-
-    /// The numbers written; all of the room if the subject wrote, or says
-    /// that it wrote, more than it was given.
-    fn written(out: &[u64; ROOM], out_len: usize, count: usize) -> Vec<u64> {
-        let beyond = out[out_len..].iter().any(|number| *number != UNTOUCHED);
-        if beyond || count > out_len {
-            out.to_vec()
-        } else {
-            out[..count].to_vec()
-        }
-    }
-
-    /// The library itself.
-    pub struct Linked;
-
-    impl Subject for Linked {
-        fn check(&mut self, image: &mut [u8]) -> Vec<u64> {
-            let mut out = [UNTOUCHED; ROOM];
-            // SAFETY: as in `resolve`.
-            let count =
-                unsafe { ventolaire_check(image.as_mut_ptr(), image.len(), out.as_mut_ptr(), 2) };
-            written(&out, 2, count)
-        }
-
-        fn resolve(&mut self, lent: &mut Lent, handle: Handle) -> Vec<u64> {
-            let mut out = [UNTOUCHED; ROOM];
-            // SAFETY: every pointer goes with the length of its allocation,
-            // which lives through the call; the output has room for more
-            // numbers than are offered. The pointers come from mutable
-            // borrows, so even a write through them would be seen and not
-            // undefined.
-            let count = unsafe {
-                ventolaire_resolve(
-                    lent.image.as_mut_ptr(),
-                    lent.image.len(),
-                    handle.mount,
-                    handle.node,
-                    handle.mark,
-                    lent.path.as_mut_ptr(),
-                    lent.path.len(),
-                    lent.how.as_mut_ptr(),
-                    lent.how.len(),
-                    out.as_mut_ptr(),
-                    6,
-                )
-            };
-            written(&out, 6, count)
-        }
-    }
-}
+mod linked;

@@ -2,7 +2,9 @@
 
 use crate::case::{Call, Case, Difference};
 use crate::resolver;
-use crate::subject::{Lent, Subject};
+use crate::sequence::Sequence;
+use crate::subject::{Lent, Subject, Way};
+use data::worked::Asked;
 use std::fmt;
 
 /// A case of the list.
@@ -18,12 +20,13 @@ pub fn read_file(file: &str) -> Result<Vec<Worked>, String> {
 impl From<data::worked::Worked> for Worked {
     fn from(listed: data::worked::Worked) -> Worked {
         let image = listed.image.clone();
-        let case = match listed.call.clone() {
-            None => Case::Table(image),
-            Some(data::worked::Call { mount, node, mark, path, how }) => {
+        let case = match listed.asked.clone() {
+            Asked::Check => Case::Table(image),
+            Asked::Call(data::worked::Call { mount, node, mark, path, how }) => {
                 let (added, added_mark) = (0, false);
                 Case::Call(Call { image, mount, node, mark, path, how, added, added_mark })
             }
+            Asked::Sequence(steps) => Case::Sequence(Sequence { image, steps }),
         };
         Worked { listed, case }
     }
@@ -42,7 +45,7 @@ impl Worked {
     }
 
     fn difference(&self, what: &'static str, got: Vec<u64>) -> Difference {
-        Difference { what, expected: self.listed.expected.clone(), got }
+        Difference { what: what.into(), expected: self.listed.expected.clone(), got }
     }
 
     fn compare(&self, what: &'static str, got: Vec<u64>) -> Result<(), Difference> {
@@ -57,6 +60,7 @@ impl Worked {
         let got = match &self.case {
             Case::Table(image) => resolver::check(image).to_vec(),
             Case::Call(call) => call.answer().0.numbers().to_vec(),
+            Case::Sequence(sequence) => sequence.expected().pop().unwrap_or_default(),
         };
         self.compare("the comparing resolver", got)
     }
@@ -64,25 +68,78 @@ impl Worked {
     /// The subject's answer is the expected one, and it only read what it was
     /// lent.
     pub fn compare_subject(&self, subject: &mut dyn Subject) -> Result<(), Difference> {
-        let (got, untouched) = match &self.case {
+        for (got, untouched) in self.got(subject) {
+            self.compare("the subject", got.clone())?;
+            if !untouched {
+                return Err(self.difference("lent bytes were changed", got));
+            }
+        }
+        Ok(())
+    }
+
+    /// The subject's answer, and whether it left what it was lent as it was; in all the ways
+    /// that it can be asked.
+    fn got(&self, subject: &mut dyn Subject) -> Vec<(Vec<u64>, bool)> {
+        match &self.case {
             Case::Table(image) => {
                 let mut lent = image.clone();
                 let got = subject.check(&mut lent);
-                (got, lent == *image)
+                vec![(got, lent == *image)]
             }
             Case::Call(call) => {
                 let before = call.lent();
                 let mut lent: Lent = before.clone();
                 let got = subject.resolve(&mut lent, call.handle());
-                (got, lent == before)
+                vec![(got, lent == before)]
             }
-        };
-        self.compare("the subject", got.clone())?;
-        if untouched {
-            return Ok(());
+            Case::Sequence(sequence) => {
+                let last = |way: &Way| {
+                    let (mut replies, untouched) = sequence.got(subject, *way);
+                    (replies.pop().unwrap_or_default(), untouched)
+                };
+                sequence.ways().iter().map(last).collect()
+            }
         }
-        Err(self.difference("lent bytes were changed", got))
     }
+
+    /// Whether it has one call more than another case of the same sequence.
+    fn continues(&self, other: &Worked) -> bool {
+        match (&self.case, &other.case) {
+            (Case::Sequence(longer), Case::Sequence(shorter)) => {
+                longer.steps.len() == shorter.steps.len() + 1 && longer.image == shorter.image
+            }
+            _ => false,
+        }
+    }
+}
+
+/// The names of the cases that the subject answers otherwise than the list says. A sequence
+/// is asked once, by its last case, which has all of its calls.
+pub fn answered_otherwise<'a>(cases: &'a [Worked], subject: &mut dyn Subject) -> Vec<&'a str> {
+    let mut names = Vec::new();
+    for run in cases.chunk_by(|case, next| next.continues(case)) {
+        let otherwise = match run.last().map(|last| &last.case) {
+            Some(Case::Sequence(sequence)) => of_a_sequence(run, sequence, subject),
+            _ => run.iter().filter(|case| case.compare_subject(subject).is_err()).collect(),
+        };
+        names.extend(otherwise.into_iter().map(Worked::name));
+    }
+    names
+}
+
+/// Those of one sequence, whose calls these are.
+fn of_a_sequence<'a>(
+    cases: &'a [Worked],
+    sequence: &Sequence,
+    subject: &mut dyn Subject,
+) -> Vec<&'a Worked> {
+    let got: Vec<_> = sequence.ways().iter().map(|way| sequence.got(subject, *way)).collect();
+    let is_as_expected = |case: &Worked, number: usize| {
+        got.iter().all(|(replies, untouched)| *untouched && replies[number] == case.listed.expected)
+    };
+    let first = 1 + sequence.steps.len() - cases.len();
+    let numbered = (first..).zip(cases);
+    numbered.filter(|(number, case)| !is_as_expected(case, *number)).map(|(_, case)| case).collect()
 }
 
 #[cfg(test)]
@@ -119,6 +176,18 @@ mod tests {
             let named = cases.iter().find(|worked| worked.name() == fault.found_by());
             let named = named.unwrap_or_else(|| panic!("{fault:?} names no case"));
             assert!(named.compare_subject(&mut Planted(Some(*fault))).is_err(), "{fault:?}");
+        }
+    }
+
+    #[test]
+    fn a_sequence_asked_once_is_answered_as_its_cases_are() {
+        let mut cases = list();
+        cases.retain(|case| ["asked", "through"].iter().any(|name| case.name().starts_with(name)));
+        for fault in [Fault::MarkInherited, Fault::AcceptedUnmarked] {
+            let mut subject = Planted(Some(fault));
+            let once = answered_otherwise(&cases, &mut subject);
+            let each = cases.iter().filter(|case| case.compare_subject(&mut subject).is_err());
+            assert!(!once.is_empty() && each.map(Worked::name).eq(once), "{fault:?}");
         }
     }
 }

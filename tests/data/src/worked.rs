@@ -1,9 +1,10 @@
-//! The list of worked cases: calls and table checks whose answers were worked out
-//! by hand. tests/cases writes it, as the input of the program crates/cases, which
-//! says how it is laid out.
+//! The list of worked cases: table checks, calls, and sequences of calls on descriptors,
+//! whose answers were worked out by hand. tests/cases writes it, as the input of the
+//! program crates/cases, which says how it is laid out.
 
 use crate::fields::get;
 use crate::hex;
+use crate::sequence::{written, Open, Step};
 use std::fmt;
 use std::fs::File;
 use std::io::Read;
@@ -11,7 +12,7 @@ use std::io::Read;
 /// Where the list stands, seen from a package in a folder of the repository.
 pub const LIST: &str = "crates/cases/stdin";
 
-const RECORD: usize = 80;
+const RECORD: usize = 84;
 /// The program has room for no more.
 const MOST: u64 = 1 << 20;
 
@@ -19,11 +20,20 @@ const MOST: u64 = 1 << 20;
 pub struct Worked {
     pub name: String,
     pub image: Vec<u8>,
-    /// None for a table check.
-    pub call: Option<Call>,
-    /// Rule and record of a check; errno (0 if found), detail, mount, node,
-    /// components and links of a call.
+    pub asked: Asked,
+    /// Rule and record of a check or a start; errno (0 if found or done), detail, mount,
+    /// node, components and links of a call, and of one on descriptors the number given.
     pub expected: Vec<u64>,
+}
+
+/// What a case asks for.
+#[derive(Clone, Debug, PartialEq)]
+pub enum Asked {
+    Check,
+    Call(Call),
+    /// The last of some calls on descriptors that were started over the image; with no
+    /// call, the start.
+    Sequence(Vec<Step>),
 }
 
 #[derive(Clone, Debug, PartialEq)]
@@ -53,42 +63,101 @@ pub fn read(list: &[u8]) -> Result<Vec<Worked>, String> {
     if count == 0 {
         return Err("it has none".into());
     }
-    let case = |i| record(list, 4 + RECORD * i).ok_or(format!("case {i} is wrong or cut off"));
-    (0..count).map(case).collect()
+    let mut started = None;
+    let mut case = |i| {
+        let record = Record { list, at: 4 + RECORD * i };
+        record.read(&mut started).ok_or(format!("case {i} is wrong or cut off"))
+    };
+    (0..count).map(&mut case).collect()
 }
 
-fn record(list: &[u8], at: usize) -> Option<Worked> {
-    let number = |from: usize, width: usize| get(list, at + from, width);
-    let part = |from: usize| {
-        let (start, length) = (number(from, 4)? as usize, number(from + 4, 4)? as usize);
-        list.get(start..start + length).map(<[u8]>::to_vec)
-    };
-    let flag = |from: usize| number(from, 4).filter(|number| *number <= 1);
-    let (call, count) = match number(0, 4)? {
-        1 => (None, 2),
-        2 => {
-            let (mount, node, mark) = (number(40, 8)?, number(48, 8)?, flag(36)? == 1);
-            (Some(Call { mount, node, mark, path: part(12)?, how: part(20)? }), 6)
+/// The image that descriptors were started over, and the calls on them so far.
+type Started = Option<(Vec<u8>, Vec<Step>)>;
+
+/// A record of the list.
+struct Record<'a> {
+    list: &'a [u8],
+    at: usize,
+}
+
+impl Record<'_> {
+    fn number(&self, from: usize, width: usize) -> Option<u64> {
+        get(self.list, self.at + from, width)
+    }
+
+    fn part(&self, from: usize) -> Option<Vec<u8>> {
+        let start = self.number(from, 4)? as usize;
+        let length = self.number(from + 4, 4)? as usize;
+        self.list.get(start..start + length).map(<[u8]>::to_vec)
+    }
+
+    fn mark(&self) -> Option<bool> {
+        self.number(36, 4).filter(|mark| *mark <= 1).map(|mark| mark == 1)
+    }
+
+    fn read(&self, started: &mut Started) -> Option<Worked> {
+        let image = self.part(4)?;
+        let (asked, count) = match self.number(0, 4)? {
+            1 => (Asked::Check, 2),
+            2 => (Asked::Call(self.call()?), 6),
+            3 => {
+                *started = Some((image.clone(), Vec::new()));
+                (Asked::Sequence(Vec::new()), 2)
+            }
+            kind => {
+                let step = self.step(kind)?;
+                let (_, steps) = started.as_mut().filter(|(over, _)| *over == image)?;
+                steps.push(step);
+                (Asked::Sequence(steps.clone()), 7)
+            }
+        };
+        let mut expected =
+            (0..7).map(|i| self.number(56 + 4 * i, 4)).collect::<Option<Vec<u64>>>()?;
+        let unused = expected.split_off(count);
+        let name = String::from_utf8(self.part(28)?).ok()?;
+        let worked = Worked { name, image, asked, expected };
+        unused.iter().all(|number| *number == 0).then_some(worked)
+    }
+
+    fn call(&self) -> Option<Call> {
+        Some(Call {
+            mount: self.number(40, 8)?,
+            node: self.number(48, 8)?,
+            mark: self.mark()?,
+            path: self.part(12)?,
+            how: self.part(20)?,
+        })
+    }
+
+    /// A call on descriptors; its number stands where a handle has its mount.
+    fn step(&self, kind: u64) -> Option<Step> {
+        let number = self.number(40, 8)?;
+        match kind {
+            4 => Some(Step::Open(Open {
+                number,
+                mark: self.mark()?,
+                path: self.part(12)?,
+                how: self.part(20)?,
+                ..Open::default()
+            })),
+            5 => Some(Step::Dup(number)),
+            6 => Some(Step::Close(number)),
+            7 => Some(Step::SetMark(number)),
+            _ => None,
         }
-        _ => return None,
-    };
-    Some(Worked {
-        name: String::from_utf8(part(28)?).ok()?,
-        image: part(4)?,
-        call,
-        expected: (0..count).map(|i| number(56 + 4 * i, 4)).collect::<Option<_>>()?,
-    })
+    }
 }
 
 /// The case as the arguments of `compare replay`.
 impl fmt::Display for Worked {
     fn fmt(&self, f: &mut fmt::Formatter) -> fmt::Result {
-        match &self.call {
-            None => f.write_str(&check_arguments(&self.image)),
-            Some(call) => {
+        match &self.asked {
+            Asked::Check => f.write_str(&check_arguments(&self.image)),
+            Asked::Call(call) => {
                 let handle = (call.mount, call.node, call.mark);
                 f.write_str(&call_arguments(&self.image, handle, &call.path, &call.how))
             }
+            Asked::Sequence(steps) => f.write_str(&sequence_arguments(&self.image, steps)),
         }
     }
 }
@@ -111,18 +180,30 @@ pub fn call_arguments(
     format!("--image {image} --mount {mount} --node {node} --mark {mark} --path {path} --how {how}")
 }
 
-/// The bytes as one argument, also where there are none.
+/// Calls on descriptors that were started over an image, as the arguments of
+/// `compare replay`.
+pub fn sequence_arguments(image: &[u8], steps: &[Step]) -> String {
+    format!("--image {} --sequence {}", argument(image), quoted(written(steps)))
+}
+
+/// The bytes as one argument.
 fn argument(bytes: &[u8]) -> String {
-    if bytes.is_empty() {
+    quoted(hex(bytes))
+}
+
+/// A text as one argument, also where it is empty.
+fn quoted(text: String) -> String {
+    if text.is_empty() {
         "''".into()
     } else {
-        hex(bytes)
+        text
     }
 }
 
 #[cfg(test)]
 mod tests {
     use super::*;
+    use crate::fields::{put, set};
 
     fn list() -> Vec<u8> {
         std::fs::read(format!("{}/../../{LIST}", env!("CARGO_MANIFEST_DIR"))).unwrap()
@@ -133,7 +214,7 @@ mod tests {
         let cases = read(&list()).unwrap();
         let first = &cases[0];
         assert_eq!((&first.name[..], &first.expected[..]), ("P1", &[0, 255, 0, 3, 2, 0][..]));
-        let call = first.call.as_ref().unwrap();
+        let Asked::Call(call) = &first.asked else { panic!("P1 is no call") };
         assert_eq!(
             (call.mount, call.node, call.mark, &call.path[..]),
             (0, 1, false, &b"cal/tare"[..])
@@ -142,14 +223,70 @@ mod tests {
         assert!(first
             .to_string()
             .contains(" --node 1 --mark 0 --path 63616c2f74617265 --how 0000"));
-        let check = cases.iter().find(|case| case.call.is_none()).unwrap();
+        let check = cases.iter().find(|case| case.asked == Asked::Check).unwrap();
         assert_eq!(check.expected.len(), 2);
+    }
+
+    /// A record of a kind over the image, with a number, and expected numbers from 1 on.
+    fn described(kind: u64, image: (usize, usize), number: u64, expected: usize) -> Vec<u8> {
+        let mut record = vec![0; RECORD];
+        let fields = [(0, kind as usize), (4, image.0), (8, image.1), (40, number as usize)];
+        for (at, value) in fields.into_iter().chain((0..expected).map(|i| (56 + 4 * i, i + 1))) {
+            set(&mut record, at, 4, value);
+        }
+        record
+    }
+
+    /// A list of records, each by kind, number and how many are expected, over two bytes.
+    fn list_of(kinds: &[(u64, u64, usize)]) -> Vec<u8> {
+        let mut list = Vec::new();
+        put(&mut list, kinds.len(), 4);
+        let image = 4 + RECORD * kinds.len();
+        for (kind, number, expected) in kinds {
+            list.extend(described(*kind, (image, 2), *number, *expected));
+        }
+        list.extend(b"im");
+        list
+    }
+
+    #[test]
+    fn a_sequence_has_the_calls_before_it() {
+        // A check between the calls of a sequence does not end it, another start does.
+        let kinds = [(3, 0, 2), (5, 0, 7), (1, 0, 2), (6, 9, 7), (3, 0, 2), (7, 64, 7), (4, 3, 7)];
+        let cases = read(&list_of(&kinds)).unwrap();
+        let open = Step::Open(Open { number: 3, ..Open::default() });
+        let asked = [
+            Asked::Sequence(vec![]),
+            Asked::Sequence(vec![Step::Dup(0)]),
+            Asked::Check,
+            Asked::Sequence(vec![Step::Dup(0), Step::Close(9)]),
+            Asked::Sequence(vec![]),
+            Asked::Sequence(vec![Step::SetMark(64)]),
+            Asked::Sequence(vec![Step::SetMark(64), open]),
+        ];
+        assert!(cases.iter().map(|case| &case.asked).eq(&asked));
+        assert_eq!(cases[0].expected, [1, 2]);
+        assert_eq!(cases[6].expected, [1, 2, 3, 4, 5, 6, 7]);
+        assert_eq!(cases[0].to_string(), "--image 696d --sequence ''");
+        assert_eq!(cases[6].to_string(), "--image 696d --sequence set_mark:64,open:3:0::");
+    }
+
+    #[test]
+    fn a_sequence_that_is_wrong_is_refused() {
+        // Without a start; an unknown kind; more numbers than a start has.
+        for kinds in [&[(5, 0, 7)][..], &[(3, 0, 2), (8, 0, 7)], &[(3, 0, 3)]] {
+            assert!(read(&list_of(kinds)).is_err(), "{kinds:?}");
+        }
+        // A call over another image than its start's.
+        let mut list = list_of(&[(3, 0, 2), (5, 0, 7)]);
+        set(&mut list, 4 + RECORD + 8, 4, 1);
+        assert_eq!(read(&list).unwrap_err(), "case 1 is wrong or cut off");
     }
 
     #[test]
     fn other_bytes_are_refused() {
         let list = list();
-        let wrong = [&[][..], &[1], &[0; 4], &[0; 4_000], &list[..83], &list[..list.len() - 1]];
+        let wrong = [&[][..], &[1], &[0; 4], &[0; 4_000], &list[..87], &list[..list.len() - 1]];
         for bytes in wrong {
             assert!(read(bytes).is_err(), "{} bytes", bytes.len());
         }

@@ -8,10 +8,10 @@ use Rattle.cases.proofs.run.Statement.{statement}
 use Rattle.cases.proofs.run.Tie as tie
 
 abbrev Inv-loop : tie.InvT-loop
-Inv-loop s count passed₀ i₀ passed i = (i ≤ count) × (passed ≤ i)
+Inv-loop s count slots₀ passed₀ i₀ slots passed i = (i ≤ count) × (passed ≤ i)
 
 abbrev μ-loop : tie.MeasureT-loop
-μ-loop s count passed₀ i₀ passed i = count - i
+μ-loop s count slots₀ passed₀ i₀ slots passed i = count - i
 
 pub run-spec : {M : Type 1} → statement M
 run-spec =

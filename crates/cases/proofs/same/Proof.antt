@@ -11,10 +11,10 @@ use Rattle.cases.proofs.same.Statement.{statement}
 use Rattle.cases.proofs.same.Tie as tie
 
 abbrev Inv-loop : tie.InvT-loop
-Inv-loop a b i₀ i = (i ≤ 6) × (length a ≡ 6) × (length b ≡ 6) × ((k : ℕ) → k < i → getD a k 0 ≡ getD b k 0)
+Inv-loop a b i₀ i = (i ≤ 7) × (length a ≡ 7) × (length b ≡ 7) × ((k : ℕ) → k < i → getD a k 0 ≡ getD b k 0)
 
 abbrev μ-loop : tie.MeasureT-loop
-μ-loop a b i₀ i = 6 - i
+μ-loop a b i₀ i = 7 - i
 
 pub same-spec : {M : Type 1} → statement M
 same-spec =

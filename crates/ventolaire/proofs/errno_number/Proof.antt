@@ -15,7 +15,7 @@ errno-number-spec =
     tie.close
     (tie.spec
     (λ c. search needs) (λ c. search needs) (λ c. search needs) (λ c. search needs) (λ c. search needs) (λ c. search needs)
-    (λ c. search needs) (λ c. search needs) (λ c. search needs)
+    (λ c. search needs) (λ c. search needs) (λ c. search needs) (λ c. search needs) (λ c. search needs)
     (λ c. arm (c .enum-told .given .1))
     (λ c. arm (c .enum-told2 .given .1))
     (λ c. arm (c .enum-told3 .given .1))
@@ -24,4 +24,6 @@ errno-number-spec =
     (λ c. arm (c .enum-told6 .given .1))
     (λ c. arm (c .enum-told7 .given .1))
     (λ c. arm (c .enum-told8 .given .1))
-    (λ c. arm (c .enum-told9 .given .1)))
+    (λ c. arm (c .enum-told9 .given .1))
+    (λ c. arm (c .enum-told10 .given .1))
+    (λ c. arm (c .enum-told11 .given .1)))

@@ -1,14 +1,15 @@
-//! Seeded inputs: tables in many shapes, damage to them, and calls.
+//! Seeded inputs: tables in many shapes, damage to them, calls, and sequences of calls on
+//! descriptors.
 //!
 //! Most calls are meant to reach the walk and go on for several components,
 //! so paths are grown along the table with the resolver itself. A case is
-//! fixed by the seed, its stream (tables or calls) and its number.
+//! fixed by the seed, its stream (tables, calls or sequences) and its number.
 //!
 //! A table begins with nodes (`nodes`), which are named (`names`), mounted
 //! (`mounts`) and given targets and bodies (`bodies`), with links that lead on and
 //! on (`chains`); or it is as large as can be (`limits`). Then it may be spoiled
 //! (`damage`). A call has an open_how (`hows`), a handle (`handles`) and a path
-//! (`paths`).
+//! (`paths`); so has each open of a sequence (`sequences`), its handle being a descriptor's.
 
 mod bodies;
 mod calls;
@@ -21,6 +22,7 @@ mod mounts;
 mod names;
 mod nodes;
 mod paths;
+mod sequences;
 mod tables;
 #[cfg(test)]
 mod tests;
@@ -30,11 +32,13 @@ use crate::resolver::accept;
 use calls::call;
 use damage::damage;
 use data::dice::Dice;
+use sequences::sequence;
 use std::collections::VecDeque;
 use tables::table;
 
 const TABLES_A_GROUP: u64 = 4;
 const CALLS_A_GROUP: u64 = 12;
+const SEQUENCES_A_GROUP: u64 = 1;
 
 /// Some checks of one table: as it is, and damaged.
 fn table_group(seed: u64, group: u64) -> Vec<Case> {
@@ -55,6 +59,11 @@ fn call_group(seed: u64, group: u64) -> Vec<Case> {
     (0..CALLS_A_GROUP).map(|_| Case::Call(call(&mut dice, &image, table.as_ref()))).collect()
 }
 
+/// A sequence, with a table of its own.
+fn sequence_group(seed: u64, group: u64) -> Vec<Case> {
+    vec![Case::Sequence(sequence(&mut Dice::new(seed, 4, group)))]
+}
+
 /// The cases of a group, by the seed and its number.
 type Group = fn(u64, u64) -> Vec<Case>;
 
@@ -70,16 +79,24 @@ pub fn one(seed: u64, stream: &str, number: u64) -> Option<Case> {
     let (group, many) = match stream {
         "table" => (table_group as Group, TABLES_A_GROUP),
         "call" => (call_group as Group, CALLS_A_GROUP),
+        "sequence" => (sequence_group as Group, SEQUENCES_A_GROUP),
         _ => return None,
     };
     group(seed, number / many).into_iter().nth((number % many) as usize)
 }
 
-/// All the cases of a run, a group of tables and a group of calls in turn.
+/// How many cases of each stream a run has.
+#[derive(Clone, Copy, Default)]
+pub struct Wanted {
+    pub tables: u64,
+    pub calls: u64,
+    pub sequences: u64,
+}
+
+/// All the cases of a run, a group of each stream in turn.
 pub struct Cases {
     seed: u64,
-    tables: Stream,
-    calls: Stream,
+    streams: [Stream; 3],
     ready: VecDeque<Numbered>,
 }
 
@@ -108,15 +125,15 @@ impl Stream {
 }
 
 impl Cases {
-    pub fn new(seed: u64, tables: u64, calls: u64) -> Cases {
+    pub fn new(seed: u64, wanted: Wanted) -> Cases {
         let stream =
-            |name, group, a_group, wanted| Stream { name, group, a_group, made: 0, wanted };
-        Cases {
-            seed,
-            tables: stream("table", table_group, TABLES_A_GROUP, tables),
-            calls: stream("call", call_group, CALLS_A_GROUP, calls),
-            ready: VecDeque::new(),
-        }
+            |name, group: Group, a_group, wanted| Stream { name, group, a_group, made: 0, wanted };
+        let streams = [
+            stream("table", table_group, TABLES_A_GROUP, wanted.tables),
+            stream("call", call_group, CALLS_A_GROUP, wanted.calls),
+            stream("sequence", sequence_group, SEQUENCES_A_GROUP, wanted.sequences),
+        ];
+        Cases { seed, streams, ready: VecDeque::new() }
     }
 }
 
@@ -125,8 +142,7 @@ impl Iterator for Cases {
 
     fn next(&mut self) -> Option<Numbered> {
         if self.ready.is_empty() {
-            self.ready.extend(self.tables.next(self.seed));
-            self.ready.extend(self.calls.next(self.seed));
+            self.ready.extend(self.streams.iter_mut().flat_map(|stream| stream.next(self.seed)));
         }
         self.ready.pop_front()
     }

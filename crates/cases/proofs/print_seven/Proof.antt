@@ -1,18 +1,18 @@
--- `cases::print_six` is safe and ends.
+-- `cases::print_seven` is safe and ends.
 -- Assumes nothing.
 use Prim.Native.Nat.{_≤_, _-_}
 use borrow.Author.Needs.{needs}
-use Rattle.cases.proofs.print_six.Statement.{statement}
-use Rattle.cases.proofs.print_six.Tie as tie
+use Rattle.cases.proofs.print_seven.Statement.{statement}
+use Rattle.cases.proofs.print_seven.Tie as tie
 
 abbrev Inv-loop : tie.InvT-loop
-Inv-loop numbers i₀ t4 i = i ≤ 6
+Inv-loop numbers i₀ t4 i = i ≤ 7
 
 abbrev μ-loop : tie.MeasureT-loop
-μ-loop numbers i₀ t4 i = 6 - i
+μ-loop numbers i₀ t4 i = 7 - i
 
-pub print-six-spec : {M : Type 1} → statement M
-print-six-spec =
+pub print-seven-spec : {M : Type 1} → statement M
+print-seven-spec =
     tie.close
     (tie.spec
     Inv-loop

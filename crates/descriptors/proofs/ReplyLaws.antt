@@ -1,0 +1,244 @@
+-- What each function's tests and calls show of the definitions: the checks of an open, a directory in any bytes, and what a reply and the numbers
+-- after it come to. Assumes nothing.
+use Prim.Native.Nat.{ℕ, _+_, _-_, _*_, _^_, _≤_, _<_}
+use mathlib.Core.Bool.{Bool, true, false, not, false≢true}
+use mathlib.Core.List.{List, _++_}
+use mathlib.Core.Option.{Option, none, some}
+use mathlib.Core.Path.{_≡_, refl, sym, ap, ap₂, _∙_, subst}
+use native.Mathlib.Omega.{arith}
+use borrow.Author.Tests.{lt-ltb, le-ltb, le-leb, lt-leb, not-true, not-false}
+use lib.Dec.{eqb}
+use lib.ListN.{length, drop, set, replicate}
+use lib.Seq.{drop-set-lt}
+use Rattle.model.specs.Answers.{refusal, notWalked}
+use Rattle.model.specs.Bytes.{field, has}
+use Rattle.model.specs.Tree.{treeOf, sizesOf, nodesPart, isDirectory}
+use Rattle.model.specs.TableCheck.{tableCheck}
+use Rattle.model.specs.OpenHow.{flagsOf, O-DIRECTORY}
+use Rattle.model.specs.Handles.{placeOf}
+use Rattle.model.specs.Resolve.{Call, callOf, refusedBefore, restrictions, traceOf, unlessRefused, resolve}
+use Rattle.model.specs.Trace.{answer}
+use Rattle.model.specs.Walk.{rootOf}
+use Rattle.model.specs.Descriptors.{Slot, closed, holding, openPath, duplicate, close, setMark, handleAt, start, slotAt, lowestFree, Served, denying, answering, askedInVain, serve}
+use Rattle.model.specs.declared.Answer.{Answer}
+use Rattle.model.specs.declared.Answer.the-variants.{Found, Refused as Answer-refused}
+use Rattle.model.specs.declared.Descriptor.{Descriptor}
+use Rattle.model.specs.declared.Errno.{Errno}
+use Rattle.model.specs.declared.Errno.the-variants.{Einval, Ebadf, Emfile, Enotty}
+use Rattle.model.specs.declared.Handle.{Handle}
+use Rattle.model.specs.declared.Place.{Place}
+use Rattle.model.specs.declared.Reached.{Reached}
+use Rattle.model.specs.declared.Refusal.{Refusal}
+use Rattle.model.specs.declared.Reply.{Reply}
+use Rattle.model.specs.declared.Reply.the-variants.{Opened, Duplicated, Done, Refused}
+use Rattle.model.specs.declared.Verdict.{Verdict}
+use Rattle.model.specs.declared.Verdict.the-variants.{Accepted, Broken}
+use Rattle.laws.proofs.Acceptance.{accepted-sized}
+use Rattle.laws.proofs.DescriptorLaws.{holding-not, open-below}
+use Rattle.laws.proofs.PartLaws.{part-column}
+use Rattle.laws.proofs.Refusals.{unrefused}
+use Rattle.theorems.specs.Bounded.{FoundInside}
+use Rattle.theorems.proofs.Bounds.{every-place-inside}
+use Rattle.image.specs.Counts.{countsOf, Counted}
+use Rattle.image.proofs.CountLaws.{counted}
+use Rattle.parts.specs.declared.records.Counts.{Counts}
+use Rattle.parts.specs.Searches.{foundOr}
+use Rattle.descriptors.specs.Slots.{handleBy, slotBy, slotsBy}
+use Rattle.descriptors.specs.Replies.{Serves, Fits, FoundFits}
+use Rattle.descriptors.proofs.SlotLaws.{slot-closed, slot-held, slots-set, free-found, free-none, all-closed, rest-behind}
+
+-- whether the mark is asked in vain
+module _ (marked : Bool) (how : List ℕ) where
+  pub vain-unasked : not marked ≡ true → false ≡ askedInVain marked how
+  unfolding askedInVain
+  vain-unasked e = rw (not-true marked e)
+
+  module _ (asked : not marked ≡ false) where
+    pub vain-short : length how < 24 → false ≡ askedInVain marked how
+    unfolding askedInVain
+    vain-short h = rw (not-false marked asked, lt-leb 24 (length how) h)
+
+    pub vain-tested : 24 ≤ length how → {flags : ℕ} → (flags ≡ field 8 how 0) × (flags < 2 ^ 64) → {r : Bool} → r ≡ has O-DIRECTORY flags
+        → not r ≡ askedInVain marked how
+    unfolding askedInVain flagsOf
+    vain-tested h flags-are is = rw (not-false marked asked, le-leb 24 (length how) h) (ap not (is ∙ ap (has O-DIRECTORY) (flags-are .0)))
+
+-- a directory of an image of any bytes, by the header's count and the record's kind
+module _ (s : List ℕ) (n : ℕ) {k : ℕ} (nodes : (k ≡ field 2 s 4) × (k < 2 ^ 16)) where
+  abbrev Directory : Bool → Type 0
+  Directory r = (r ≡ isDirectory (treeOf s) n) × (r ≡ true → n < 65536)
+
+  pub no-node : k ≤ n → Directory false
+  unfolding isDirectory treeOf sizesOf
+  no-node h = (rw (le-ltb n (field 2 s 4) (omega (arith, nodes .0))), λ e. absurd (false≢true e))
+
+  pub node-read : n < k → {x : ℕ} → (x ≡ field 2 s (20 + 12 * n)) × (x < 2 ^ 16) → Directory (eqb x 1)
+  unfolding isDirectory treeOf sizesOf nodesPart
+  node-read h {x} read =
+      let kind = part-column 2 s 20 (12 * field 2 s 4) (12 * n) (20 + 12 * n) (omega (arith, nodes .0)) refl in
+      (rw (lt-ltb n (field 2 s 4) (omega (arith, nodes .0))) (ap (λ (y : ℕ). eqb y 1) (read .0 ∙ kind)), λ e. omega (arith, nodes .1))
+
+-- a place that the resolver finds fits into a slot's number: its table is accepted, and the place one of its tree
+found-accepted : (image : List ℕ) (call : Call) (r : Reached) → resolve image call ≡ Found r → tableCheck image ≡ Accepted
+unfolding resolve
+found-accepted image call r e = by (refusedBefore image call) refl
+  where
+    by : (o : Option Refusal) → refusedBefore image call ≡ o → tableCheck image ≡ Accepted
+    by none is = unrefused image call is .table-passes
+    by (some q) is =
+        let walked = answer (restrictions call) (traceOf image call) in
+        let same : Answer-refused q ≡ Found r = sym (ap (λ (o : Option Refusal). unlessRefused o walked) is) ∙ e in
+        let z : _≡_ {A = ℕ} 0 1 = cc in
+        absurd (omega arith)
+
+pub found-fits : (image : List ℕ) (call : Call) (a : Answer) → a ≡ resolve image call → FoundFits a
+found-fits image call (Answer-refused q) is = tt
+found-fits image call (Found r) is =
+    let inside = subst (FoundInside (treeOf image)) (sym is) (every-place-inside image call) in
+    let sized = accepted-sized image (found-accepted image call r (sym is)) in
+    (omega (arith, inside .mount-below, sized .few-mounts), omega (arith, inside .node-below, sized .few-nodes))
+
+pub fits-told : {a : Answer} {r : Reached} → a ≡ Found r → FoundFits a → Fits (r .place)
+fits-told {a} {r} told fits = subst FoundFits told fits
+
+-- a refusal of the table's own, and one slot stored
+module _ {before : List ℕ} where
+  pub denied : {e : Errno} {r : Reply} → r ≡ Refused (refusal e notWalked) → Serves (denying (slotsBy before) e) before before r
+  denied is = record { reply-is = is; slots-are = refl; refusal-keeps = λ _ _. refl; rest-stays = refl }
+
+  stored : (d x : ℕ) {slot : Slot} {r reply : Reply} → d < 64 → slotBy x ≡ slot → r ≡ reply → ((e : Refusal) → reply ≡ Refused e → ⊥)
+      → Serves (record { reply = reply; slots = set (slotsBy before) d slot }) before (set before d x) r
+  stored d x below is told differs = record {
+    reply-is = told;
+    slots-are = slots-set before d x below ∙ ap (set (slotsBy before) d) is;
+    refusal-keeps = λ e same. absurd (differs e (sym told ∙ same));
+    rest-stays = drop-set-lt 64 before d x below;
+  }
+
+opened-not : (o : Descriptor) (e : Refusal) → Opened o ≡ Refused e → ⊥
+opened-not o e same = let z : _≡_ {A = ℕ} 0 1 = cc in omega arith
+
+duplicated-not : (d : ℕ) (e : Refusal) → Duplicated d ≡ Refused e → ⊥
+duplicated-not d e same = let z : _≡_ {A = ℕ} 0 1 = cc in omega arith
+
+done-not : (e : Refusal) → Done ≡ Refused e → ⊥
+done-not e same = let z : _≡_ {A = ℕ} 0 1 = cc in omega arith
+
+-- what the resolver answered, in the lowest free number
+module _ (before : List ℕ) (marked : Bool) {a : Answer} where
+  pub answer-refused : {q : Refusal} {r : Reply} → a ≡ Answer-refused q → r ≡ Refused q → Serves (answering (slotsBy before) marked a) before before r
+  answer-refused told is = rw told (record { reply-is = is; slots-are = refl; refusal-keeps = λ _ _. refl; rest-stays = refl })
+
+  module _ {reached : Reached} (told : a ≡ Found reached) {n : ℕ} (free : n ≡ foundOr 64 (lowestFree (slotsBy before))) where
+    pub answer-full : {r : Reply} → 64 ≤ n → r ≡ Refused (refusal Emfile notWalked) → Serves (answering (slotsBy before) marked a) before before r
+    answer-full none-free is = rw (told, free-none before free none-free) (denied is)
+
+    pub answer-opened : (x : ℕ) {r : Reply} → n < 64 → slotBy x ≡ holding (handleAt (reached .place) marked)
+        → r ≡ Opened (record { number = n; reached = reached }) → Serves (answering (slotsBy before) marked a) before (set before n x) r
+    answer-opened x below slot is = rw (told, free-found before free below) (stored n x below slot is (opened-not _))
+
+-- the slot that a call goes through, by the number that was read there
+module _ (before : List ℕ) (d x : ℕ) (read : slotBy x ≡ slotAt (slotsBy before) d) where
+  shut : x ≡ 0 → slotAt (slotsBy before) d ≡ closed
+  shut e = sym read ∙ ap slotBy e ∙ slot-closed
+
+  here : (x ≡ 0 → ⊥) → slotAt (slotsBy before) d ≡ holding (handleBy (x - 1))
+  here ne = sym read ∙ slot-held x (omega (arith, ne))
+
+  -- a slot that is not closed is one of the 64
+  pub read-below : (x ≡ 0 → ⊥) → d < 64
+  read-below ne = open-below (slotsBy before) d (λ e. holding-not (sym (here ne) ∙ e))
+
+  module _ (image : List ℕ) where
+    module _ {r : Reply} (x-is : x ≡ 0) (is : r ≡ Refused (refusal Ebadf notWalked)) where
+      pub open-shut : (marked : Bool) (path how : List ℕ) → Serves (serve image (slotsBy before) (openPath d marked path how)) before before r
+      unfolding serve
+      open-shut marked path how = rw (shut x-is) (denied is)
+
+      pub duplicate-shut : Serves (serve image (slotsBy before) (duplicate d)) before before r
+      unfolding serve
+      duplicate-shut = rw (shut x-is) (denied is)
+
+      pub close-shut : Serves (serve image (slotsBy before) (close d)) before before r
+      unfolding serve
+      close-shut = rw (shut x-is) (denied is)
+
+      pub mark-shut : Serves (serve image (slotsBy before) (setMark d)) before before r
+      unfolding serve
+      mark-shut = rw (shut x-is) (denied is)
+
+    module _ (ne : x ≡ 0 → ⊥) where
+      module _ (marked : Bool) (path how : List ℕ) {vain : Bool} (vain-is : vain ≡ askedInVain marked how) where
+        pub open-vain : {r : Reply} → vain ≡ true → r ≡ Refused (refusal Einval notWalked)
+            → Serves (serve image (slotsBy before) (openPath d marked path how)) before before r
+        unfolding serve
+        open-vain e is = rw (here ne) (rw (sym vain-is ∙ e) (denied is))
+
+        pub open-answered : {h : Handle} {a : Answer} {after : List ℕ} {r : Reply} → vain ≡ false → (slotBy x ≡ holding h) × (h .mount < 4294967296)
+            → a ≡ resolve image (callOf h path how) → Serves (answering (slotsBy before) marked a) before after r
+            → Serves (serve image (slotsBy before) (openPath d marked path how)) before after r
+        unfolding serve
+        open-answered {h} {a} {after} {r} e held is serves =
+            rw (sym read ∙ held .0) (rw (sym vain-is ∙ e) (subst (λ (y : Answer). Serves (answering (slotsBy before) marked y) before after r) is serves))
+
+      module _ {n : ℕ} (free : n ≡ foundOr 64 (lowestFree (slotsBy before))) where
+        pub duplicate-full : {r : Reply} → 64 ≤ n → r ≡ Refused (refusal Emfile notWalked) → Serves (serve image (slotsBy before) (duplicate d)) before before r
+        unfolding serve
+        duplicate-full none-free is = rw (here ne) (rw (free-none before free none-free) (denied is))
+
+        pub duplicate-given : {r : Reply} → n < 64 → r ≡ Duplicated n → Serves (serve image (slotsBy before) (duplicate d)) before (set before n x) r
+        unfolding serve
+        duplicate-given below is = rw (here ne) (rw (free-found before free below) (stored n x below (read ∙ here ne) is (duplicated-not n)))
+
+      pub close-done : {r : Reply} → r ≡ Done → Serves (serve image (slotsBy before) (close d)) before (set before d 0) r
+      unfolding serve
+      close-done is = rw (here ne) (stored d 0 (read-below ne) slot-closed is done-not)
+
+      module _ {h : Handle} (held : (slotBy x ≡ holding h) × (h .mount < 4294967296)) {directory : Bool}
+          (directory-is : (directory ≡ isDirectory (treeOf image) (h .node)) × (directory ≡ true → h .node < 65536)) where
+        pub mark-refused : {r : Reply} → not directory ≡ true → r ≡ Refused (refusal Enotty notWalked)
+            → Serves (serve image (slotsBy before) (setMark d)) before before r
+        unfolding serve
+        mark-refused e is = rw (sym read ∙ held .0) (rw (sym (directory-is .0) ∙ not-true directory e) (denied is))
+
+        pub mark-fits : not directory ≡ false → Fits (placeOf h)
+        mark-fits e = (held .1, omega (arith, directory-is .1 (not-false directory e)))
+
+        pub mark-done : (y : ℕ) {r : Reply} → not directory ≡ false → slotBy y ≡ holding (handleAt (placeOf h) true) → r ≡ Done
+            → Serves (serve image (slotsBy before) (setMark d)) before (set before d y) r
+        unfolding serve
+        mark-done y e slot is =
+            rw (sym read ∙ held .0) (rw (sym (directory-is .0) ∙ not-false directory e) (stored d y (read-below ne) slot is done-not))
+
+-- the slots of a start, once all are closed
+module _ (image before : List ℕ) {shut : List ℕ} (shut-is : shut ≡ replicate 64 0 ++ drop 64 before) where
+  abbrev Started : List ℕ → Type 0
+  Started after = (slotsBy after ≡ start image) × (drop 64 after ≡ drop 64 before)
+
+  pub start-broken : {v : Verdict} {rule r : ℕ} → v ≡ tableCheck image → v ≡ Broken rule r
+      → (v ≡ tableCheck image) × (slotsBy shut ≡ start image) × (drop 64 shut ≡ drop 64 before)
+  unfolding start
+  start-broken is told = (is, ap slotsBy shut-is ∙ all-closed before ∙ rw (sym is ∙ told), ap (drop 64) shut-is ∙ rest-behind before)
+
+  pub start-open : tableCheck image ≡ Accepted → (x : ℕ) {root : ℕ} → (root ≡ treeOf image .mountRoot 0) × (root < 2 ^ 16)
+      → slotBy x ≡ holding (handleAt (record { mount = 0; node = root }) false) → Started (set shut 0 x)
+  unfolding start rootOf
+  start-open accepted x root-is slot =
+      let slots = slots-set shut 0 x (omega arith) ∙ ap₂ (λ (l : List Slot) (s : Slot). set l 0 s) (ap slotsBy shut-is ∙ all-closed before) slot in (
+        slots ∙ rw (accepted, root-is .0),
+        drop-set-lt 64 shut 0 x (omega arith) ∙ ap (drop 64) shut-is ∙ rest-behind before,
+      )
+
+-- the header of an accepted table, its counts, and mount 0
+module _ (image : List ℕ) (accepted : tableCheck image ≡ Accepted) where
+  pub header : 20 ≤ length image
+  header = omega (arith, accepted-sized image accepted .whole)
+
+  pub counts : {c : Counts} → c ≡ countsOf image → Counted image c
+  counts = counted (accepted-sized image accepted)
+
+  pub some-mount : 0 < treeOf image .mounts
+  some-mount = accepted-sized image accepted .some-mount
+
+pub accepted-told : (image : List ℕ) {v : Verdict} → v ≡ tableCheck image → v ≡ Accepted → tableCheck image ≡ Accepted
+accepted-told image is told = sym is ∙ told

@@ -1,0 +1,16 @@
+-- `descriptors::duplicate` meets its contract. Assumes nothing.
+use borrow.Author.Needs.{needs}
+use Rattle.descriptors.proofs.ReplyLaws.{duplicate-shut, duplicate-full, duplicate-given}
+use Rattle.descriptors.proofs.duplicate.Statement.{statement}
+use Rattle.descriptors.proofs.duplicate.Tie as tie
+
+pub duplicate-spec : {M : Type 1} → statement M
+duplicate-spec =
+    tie.close
+    (tie.spec
+    (λ c κs. search needs) (λ c κs. search needs) (λ c. search needs)
+    (λ c image. search (needs, duplicate-shut))
+    (λ c κs. search needs) (λ c κs. search needs) (λ c. search needs)
+    (λ c image. search (needs, duplicate-full))
+    (λ c. search needs) (λ c. search needs) (λ c. search needs)
+    (λ c image. search (needs, duplicate-given)))

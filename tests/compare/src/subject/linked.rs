@@ -1,0 +1,144 @@
+//! The library itself, by its C functions.
+//!
+//! Every pointer handed over goes with the length of its allocation, which lives through
+//! the call. The pointers come from mutable borrows, so even a write through them would be
+//! seen and not undefined; the output and the slots have room behind what is offered, for
+//! the same reason.
+
+use super::{Handle, Lent, Slots, Subject, Way};
+use crate::descriptors::SLOTS;
+use data::sequence::{Open, Step};
+use ventolaire_sys::{
+    ventolaire_check, ventolaire_close, ventolaire_descriptors, ventolaire_dup, ventolaire_open,
+    ventolaire_open_accepted, ventolaire_resolve, ventolaire_set_mark, ventolaire_start,
+    ventolaire_start_accepted,
+};
+// It is this crate that has the library linked.
+use ventolaire as _;
+
+/// What stands in the output before a call, and must still stand behind
+/// the numbers written after it.
+const UNTOUCHED: u64 = 0xA5A5_5A5A_C3C3_3C3C;
+const ROOM: usize = 10;
+
+/// The numbers written; all of the room if the subject wrote, or says
+/// that it wrote, more than it was given.
+fn written(out: &[u64; ROOM], out_len: usize, count: usize) -> Vec<u64> {
+    let beyond = out[out_len..].iter().any(|number| *number != UNTOUCHED);
+    if beyond || count > out_len {
+        out.to_vec()
+    } else {
+        out[..count].to_vec()
+    }
+}
+
+/// Numbers before and behind the slots that are none.
+const BESIDE: usize = 4;
+
+/// Lends a copy of the slots with something before and behind, and takes it back. What
+/// was written beside them shows as slots that have all the same number.
+fn lend<T>(slots: &mut Slots, call: impl FnOnce(*mut ventolaire_descriptors) -> T) -> T {
+    let mut lent = [UNTOUCHED; BESIDE + SLOTS + BESIDE];
+    let inside = BESIDE..BESIDE + SLOTS;
+    lent[inside.clone()].copy_from_slice(&slots[..]);
+    let given = call(lent.as_mut_ptr().wrapping_add(BESIDE).cast());
+    let beside = lent[..inside.start].iter().chain(&lent[inside.end..]);
+    if beside.copied().all(|number| number == UNTOUCHED) {
+        slots.copy_from_slice(&lent[inside]);
+    } else {
+        slots.fill(UNTOUCHED);
+    }
+    given
+}
+
+/// The library itself.
+pub struct Linked;
+
+impl Subject for Linked {
+    fn check(&mut self, image: &mut [u8]) -> Vec<u64> {
+        let mut out = [UNTOUCHED; ROOM];
+        // SAFETY: as said above.
+        let count =
+            unsafe { ventolaire_check(image.as_mut_ptr(), image.len(), out.as_mut_ptr(), 2) };
+        written(&out, 2, count)
+    }
+
+    fn resolve(&mut self, lent: &mut Lent, handle: Handle) -> Vec<u64> {
+        let mut out = [UNTOUCHED; ROOM];
+        // SAFETY: as said above.
+        let count = unsafe {
+            ventolaire_resolve(
+                lent.image.as_mut_ptr(),
+                lent.image.len(),
+                handle.mount,
+                handle.node,
+                handle.mark,
+                lent.path.as_mut_ptr(),
+                lent.path.len(),
+                lent.how.as_mut_ptr(),
+                lent.how.len(),
+                out.as_mut_ptr(),
+                6,
+            )
+        };
+        written(&out, 6, count)
+    }
+
+    fn start(&mut self, image: &mut [u8], slots: &mut Slots, room: usize) -> Vec<u64> {
+        let mut out = [UNTOUCHED; ROOM];
+        let (image, len) = (image.as_mut_ptr(), image.len());
+        // SAFETY: as said above.
+        let count = lend(slots, |slots| unsafe {
+            ventolaire_start(image, len, slots, out.as_mut_ptr(), room)
+        });
+        written(&out, room, count)
+    }
+
+    fn start_accepted(&mut self, image: &mut [u8], slots: &mut Slots) {
+        let (image, len) = (image.as_mut_ptr(), image.len());
+        // SAFETY: as said above; and the caller's image is accepted.
+        lend(slots, |slots| unsafe { ventolaire_start_accepted(image, len, slots) });
+    }
+
+    fn act(&mut self, image: &mut [u8], slots: &mut Slots, step: &mut Step, way: Way) -> Vec<u64> {
+        let mut out = [UNTOUCHED; ROOM];
+        let to = (out.as_mut_ptr(), way.room);
+        let (image, len) = (image.as_mut_ptr(), image.len());
+        // SAFETY: as said above.
+        let count = lend(slots, |slots| unsafe {
+            match step {
+                Step::Open(open) => ask_open((image, len), slots, open, way.accepted, to),
+                Step::Dup(number) => ventolaire_dup(slots, *number, to.0, to.1),
+                Step::Close(number) => ventolaire_close(slots, *number, to.0, to.1),
+                Step::SetMark(number) => {
+                    ventolaire_set_mark(image, len, slots, *number, to.0, to.1)
+                }
+            }
+        });
+        written(&out, way.room, count)
+    }
+}
+
+/// An open by one of its two functions.
+///
+/// # Safety
+///
+/// The pointers go with their lengths; an image said to be accepted is.
+unsafe fn ask_open(
+    image: (*mut u8, usize),
+    slots: *mut ventolaire_descriptors,
+    open: &mut Open,
+    accepted: bool,
+    out: (*mut u64, usize),
+) -> usize {
+    let function: ventolaire_sys::Open =
+        if accepted { ventolaire_open_accepted } else { ventolaire_open };
+    let Open { number, mark, path, how, .. } = open;
+    let (path, how) = ((path.as_mut_ptr(), path.len()), (how.as_mut_ptr(), how.len()));
+    // SAFETY: as the caller has it.
+    unsafe {
+        function(
+            image.0, image.1, slots, *number, *mark, path.0, path.1, how.0, how.1, out.0, out.1,
+        )
+    }
+}

@@ -1,0 +1,120 @@
+/*
+ * Faults between the fuzz target and the library, one for each number FAULT, put
+ * there by the linker's --wrap: the target must fail with each of them, and must
+ * not with FAULT 0. The script `faults` builds and runs them.
+ */
+
+#include <string.h>
+
+#include "ventolaire.h"
+
+typedef ventolaire_descriptors slots;
+
+size_t __real_ventolaire_start(const uint8_t *, size_t, slots *, uint64_t *, size_t);
+size_t __real_ventolaire_dup(slots *, uint64_t, uint64_t *, size_t);
+size_t __real_ventolaire_close(slots *, uint64_t, uint64_t *, size_t);
+size_t __real_ventolaire_set_mark(const uint8_t *, size_t, slots *, uint64_t, uint64_t *, size_t);
+size_t __real_ventolaire_open(const uint8_t *, size_t, slots *, uint64_t, bool,
+                              const uint8_t *, size_t, const uint8_t *, size_t,
+                              uint64_t *, size_t);
+size_t __real_ventolaire_open_accepted(const uint8_t *, size_t, slots *, uint64_t, bool,
+                                       const uint8_t *, size_t, const uint8_t *, size_t,
+                                       uint64_t *, size_t);
+
+static bool is_done(size_t written, const uint64_t *out)
+{
+    return written != 0 && out[VENTOLAIRE_REPLY_ERRNO] == 0;
+}
+
+size_t __wrap_ventolaire_start(const uint8_t *image, size_t image_len, slots *table,
+                               uint64_t *out, size_t out_len)
+{
+    size_t written = __real_ventolaire_start(image, image_len, table, out, out_len);
+    if (FAULT == 1 && written != 0) /* descriptor 5 is open */
+        table->slots[5] = 1;
+    if (FAULT == 2 && written != 0) /* descriptor 0 is closed */
+        table->slots[0] = 0;
+    return written;
+}
+
+size_t __wrap_ventolaire_dup(slots *table, uint64_t number, uint64_t *out, size_t out_len)
+{
+    if (FAULT == 3) /* the number's low bits alone */
+        number %= VENTOLAIRE_DESCRIPTORS;
+    size_t written = __real_ventolaire_dup(table, number, out, out_len);
+    bool done = is_done(written, out);
+    if (FAULT == 4 && done) /* another handle */
+        table->slots[out[VENTOLAIRE_REPLY_DESCRIPTOR]] ^= 1 << 20;
+    if (FAULT == 5 && written != 0 && !done && number < VENTOLAIRE_DESCRIPTORS)
+        table->slots[number] = 0; /* a refusal closes */
+    if (FAULT == 6 && done) {
+        /* the highest that is free */
+        size_t given = out[VENTOLAIRE_REPLY_DESCRIPTOR], highest = VENTOLAIRE_DESCRIPTORS - 1;
+        uint64_t handle = table->slots[given];
+        table->slots[given] = 0;
+        while (table->slots[highest] != 0)
+            highest--;
+        table->slots[highest] = handle;
+        out[VENTOLAIRE_REPLY_DESCRIPTOR] = highest;
+    }
+    return written;
+}
+
+size_t __wrap_ventolaire_close(slots *table, uint64_t number, uint64_t *out, size_t out_len)
+{
+    slots before = *table;
+    size_t written = __real_ventolaire_close(table, number, out, out_len);
+    if (FAULT == 7) /* nothing is closed */
+        *table = before;
+    return written;
+}
+
+size_t __wrap_ventolaire_set_mark(const uint8_t *image, size_t image_len, slots *table,
+                                  uint64_t number, uint64_t *out, size_t out_len)
+{
+    static unsigned marked;
+    size_t written = __real_ventolaire_set_mark(image, image_len, table, number, out, out_len);
+    bool done = is_done(written, out);
+    if (FAULT == 8 && done) /* the mark is shared */
+        for (size_t i = 0; i < VENTOLAIRE_DESCRIPTORS; i++)
+            if (table->slots[i] != 0)
+                table->slots[i] = table->slots[number];
+    if (FAULT == 9 && done && marked++ % 2 == 1) /* not the same each time */
+        table->slots[number] ^= 2;
+    return written;
+}
+
+size_t __wrap_ventolaire_open(const uint8_t *image, size_t image_len, slots *table,
+                              uint64_t number, bool mark, const uint8_t *path, size_t path_len,
+                              const uint8_t *how, size_t how_len, uint64_t *out, size_t out_len)
+{
+    bool asked = FAULT == 10 ? false : mark; /* the mark is not asked for */
+    size_t written = __real_ventolaire_open(image, image_len, table, number, asked,
+                                            path, path_len, how, how_len, out, out_len);
+    if (FAULT == 14 && is_done(written, out)) /* what is opened is what was opened through */
+        table->slots[out[VENTOLAIRE_REPLY_DESCRIPTOR]] = table->slots[number];
+    bool is_full = true;
+    for (size_t i = 0; i < VENTOLAIRE_DESCRIPTORS; i++)
+        is_full = is_full && table->slots[i] != 0;
+    if (FAULT == 11 && written != 0 && is_full && mark) /* EMFILE before all else */
+        memcpy(out, (uint64_t[VENTOLAIRE_REPLY_LEN]){VENTOLAIRE_EMFILE, VENTOLAIRE_NO_DETAIL},
+               sizeof(uint64_t[VENTOLAIRE_REPLY_LEN]));
+    if (FAULT == 12 && written != 0 && out[VENTOLAIRE_REPLY_ERRNO] == VENTOLAIRE_EMFILE)
+        out[VENTOLAIRE_REPLY_COMPONENTS] = 1; /* EMFILE with counts */
+    return written;
+}
+
+size_t __wrap_ventolaire_open_accepted(const uint8_t *image, size_t image_len, slots *table,
+                                       uint64_t number, bool mark,
+                                       const uint8_t *path, size_t path_len,
+                                       const uint8_t *how, size_t how_len,
+                                       uint64_t *out, size_t out_len)
+{
+    size_t written = __real_ventolaire_open_accepted(image, image_len, table, number, mark,
+                                                     path, path_len, how, how_len, out, out_len);
+    if (FAULT == 13 && is_done(written, out)) /* another handle than with the check */
+        table->slots[out[VENTOLAIRE_REPLY_DESCRIPTOR]] ^= 4;
+    if (FAULT == 14 && is_done(written, out)) /* in both */
+        table->slots[out[VENTOLAIRE_REPLY_DESCRIPTOR]] = table->slots[number];
+    return written;
+}
