@@ -178,8 +178,9 @@ size_t ventolaire_resolve_accepted(const uint8_t *image, size_t image_len,
 
 /*
  * Descriptors: numbers that a script holds in place of handles, 0 to 63. Each is
- * closed, or is a handle that keeps its mark: whatever is opened through a marked
- * one stays below it, and no later call can forget that.
+ * closed, or is a handle that keeps its mark: a path that is opened through a
+ * marked one never leads out of it, and no call but its close takes the mark away.
+ * What is opened is marked only if that is asked.
  *
  * The table of them is the caller's, 64 numbers that ventolaire_start fills in.
  * They may be copied, and kept as long as the image they were started with; other
