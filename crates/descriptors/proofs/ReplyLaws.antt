@@ -39,9 +39,6 @@ use Rattle.laws.proofs.PartLaws.{part-column}
 use Rattle.laws.proofs.Refusals.{unrefused}
 use Rattle.theorems.specs.Bounded.{FoundInside}
 use Rattle.theorems.proofs.Bounds.{every-place-inside}
-use Rattle.image.specs.Counts.{countsOf, Counted}
-use Rattle.image.proofs.CountLaws.{counted}
-use Rattle.parts.specs.declared.records.Counts.{Counts}
 use Rattle.parts.specs.Searches.{foundOr}
 use Rattle.descriptors.specs.Slots.{handleBy, slotBy, slotsBy}
 use Rattle.descriptors.specs.Replies.{Serves, Fits, FoundFits}
@@ -229,16 +226,6 @@ module _ (image before : List ℕ) {shut : List ℕ} (shut-is : shut ≡ replica
         drop-set-lt 64 shut 0 x (omega arith) ∙ ap (drop 64) shut-is ∙ rest-behind before,
       )
 
--- the header of an accepted table, its counts, and mount 0
-module _ (image : List ℕ) (accepted : tableCheck image ≡ Accepted) where
-  pub header : 20 ≤ length image
-  header = omega (arith, accepted-sized image accepted .whole)
-
-  pub counts : {c : Counts} → c ≡ countsOf image → Counted image c
-  counts = counted (accepted-sized image accepted)
-
-  pub some-mount : 0 < treeOf image .mounts
-  some-mount = accepted-sized image accepted .some-mount
-
-pub accepted-told : (image : List ℕ) {v : Verdict} → v ≡ tableCheck image → v ≡ Accepted → tableCheck image ≡ Accepted
-accepted-told image is told = sym is ∙ told
+-- an accepted table has mount 0
+pub some-mount : (image : List ℕ) → tableCheck image ≡ Accepted → 0 < treeOf image .mounts
+some-mount image accepted = accepted-sized image accepted .some-mount

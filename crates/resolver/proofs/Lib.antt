@@ -1,2 +1,2 @@
 mod BeginLaws
-mod CallLaws
+pub mod CallLaws
