@@ -177,6 +177,40 @@ size_t ventolaire_resolve_accepted(const uint8_t *image, size_t image_len,
                                    uint64_t *out, size_t out_len);
 
 /*
+ * Looks `name` up in the directory `node`, whose names are sorted, by halving:
+ * the middle of the names left is compared (of two, the earlier); if it is not
+ * equal, the side that can hold the name is left. The answer tells how many
+ * names were compared, found or not: at most as many as the directory's count of
+ * entries has binary digits, so at most 12 in a directory of 3,000.
+ *
+ * Refused in this order: EUCLEAN if the table check fails; EBADF if there is no
+ * such node; ENOTDIR if it is not a directory; ENOENT if the directory has no
+ * entry of that name. Only ENOENT has compared any. The name is any bytes: what
+ * can be no entry's name, as an empty one, "..", or one with a "/", is absent.
+ * Nothing is followed, and no mount is entered: the node is the entry's own.
+ *
+ * The image is checked first, at every call.
+ */
+enum {
+    VENTOLAIRE_LOOKUP_ERRNO,    /* 0: found */
+    VENTOLAIRE_LOOKUP_ENTRY,    /* the entry, and the node that it names; */
+    VENTOLAIRE_LOOKUP_NODE,     /* 0 and 0 with a refusal */
+    VENTOLAIRE_LOOKUP_COMPARED, /* names compared, at most 13 */
+    VENTOLAIRE_LOOKUP_LEN       /* how many numbers the answer has: 4 */
+};
+
+size_t ventolaire_lookup(const uint8_t *image, size_t image_len, uint64_t node,
+                         const uint8_t *name, size_t name_len,
+                         uint64_t *out, size_t out_len);
+
+/* The same for an image that was accepted, as ventolaire_resolve_accepted wants
+ * it, without the check. */
+size_t ventolaire_lookup_accepted(const uint8_t *image, size_t image_len,
+                                  uint64_t node,
+                                  const uint8_t *name, size_t name_len,
+                                  uint64_t *out, size_t out_len);
+
+/*
  * Descriptors: numbers that a script holds in place of handles, 0 to 63. Each is
  * closed, or is a handle that keeps its mark: a path that is opened through a
  * marked one never leads out of it, and no call but its close takes the mark away.

@@ -78,6 +78,30 @@ static void descriptors(void)
         HOLDS(closed.slots[i] == 0);
 }
 
+/* The numbers of a lookup's answer, and a call of each function. */
+static void lookups(void)
+{
+    HOLDS(VENTOLAIRE_LOOKUP_ERRNO == 0 && VENTOLAIRE_LOOKUP_ENTRY == 1);
+    HOLDS(VENTOLAIRE_LOOKUP_NODE == 2 && VENTOLAIRE_LOOKUP_COMPARED == 3);
+    HOLDS(VENTOLAIRE_LOOKUP_LEN == 4);
+
+    /* The smallest image: node 0 is a directory without names, and there is no other. */
+    const uint8_t image[40] = {'T', 'O', 'C', '1', 1, 0, 1, 0, 0, 0, 0,
+                               0, 0, 0, 0, 0, 40, 0, 0, 0, 1};
+    const size_t len = sizeof image;
+    const uint8_t *name = (const uint8_t *)"lab";
+    uint64_t out[VENTOLAIRE_LOOKUP_LEN];
+    HOLDS(ventolaire_check(image, len, out, 2) == 2 && out[VENTOLAIRE_CHECK_RULE] == 0);
+    HOLDS(ventolaire_lookup_accepted(image, len, 0, name, 3, out, 4) == 4);
+    HOLDS(out[VENTOLAIRE_LOOKUP_ERRNO] == VENTOLAIRE_ENOENT);
+    HOLDS(out[VENTOLAIRE_LOOKUP_ENTRY] == 0 && out[VENTOLAIRE_LOOKUP_NODE] == 0);
+    HOLDS(out[VENTOLAIRE_LOOKUP_COMPARED] == 0);
+    HOLDS(ventolaire_lookup(image, len, 1, name, 3, out, 4) == 4);
+    HOLDS(out[VENTOLAIRE_LOOKUP_ERRNO] == VENTOLAIRE_EBADF);
+    HOLDS(ventolaire_lookup(NULL, 0, 0, NULL, 0, out, 4) == 4);
+    HOLDS(out[VENTOLAIRE_LOOKUP_ERRNO] == VENTOLAIRE_EUCLEAN);
+}
+
 static void hows(void)
 {
     const uint8_t expected[VENTOLAIRE_HOW_SIZE + 1] = {
@@ -94,6 +118,7 @@ int main(void)
     names();
     room();
     descriptors();
+    lookups();
     hows();
     return failures != 0;
 }

@@ -23,7 +23,7 @@ pub const GROWTHS: &[Growth] = &[
     Growth {
         name: "walk-entries",
         about: "one component, the middle one of SIZE names in the directory",
-        sizes: &[1, 10, 100, 1_000, 4_000],
+        sizes: &[1, 10, 12, 13, 100, 1_000, 4_000],
         build: walk_entries,
     },
     Growth {

@@ -30,6 +30,7 @@ mod descriptors;
 mod growth;
 mod hostile;
 mod linear;
+mod lookups;
 mod measure;
 mod plain;
 #[cfg(feature = "proved")]
@@ -58,10 +59,11 @@ bench list            the cases
 bench table           all cases: instructions and time per call
 bench growth          how instructions per call grow with the input
 bench sweep           instructions per call by the length of names and bodies
+bench lookups         a name in one directory: instructions and time per call, and their bar
 bench descriptors     calls on descriptors: instructions and time per call, and their bars
 bench calls           a call from Rust, its table checked each time and once
-bench all FILE        table, growth, sweep and descriptors, and a chart of the first two in FILE,
-                      as SVG
+bench all FILE        table, growth, sweep, lookups and descriptors, and a chart of the first two
+                      in FILE, as SVG
 bench run CASE plain|linear|proved CALLS
                       one case, that many times
 bench call TABLE resolve|table CALLS
@@ -105,6 +107,7 @@ fn main() -> ExitCode {
         ["table"] => table().map(drop),
         ["growth"] => growth::measure().map(drop),
         ["sweep"] => sweep::measure(),
+        ["lookups"] => lookups::measure(),
         ["descriptors"] => descriptors::measure(),
         #[cfg(feature = "proved")]
         ["calls"] => calls::measure(),
@@ -152,6 +155,9 @@ fn list() {
     for (name, about) in descriptors::list() {
         println!("{name:24} {about}");
     }
+    for (name, about) in lookups::list() {
+        println!("{name:24} {about}");
+    }
 }
 
 /// One case, by the name that `bench list` gives it. Prints the sum of the
@@ -161,6 +167,10 @@ fn run(case: &str, side: &str, calls: &str) -> Result<(), Box<dyn Error>> {
     let calls = number_of_calls(calls)?;
     if let Some(replied) = descriptors::run(case, side, calls) {
         println!("{}", replied.map_err(|reply| format!("{case}: it replies {reply:?}"))?);
+        return Ok(());
+    }
+    if let Some(sum) = lookups::run(case, side, calls) {
+        println!("{sum}");
         return Ok(());
     }
     let input = tables::input(case).or_else(|| growth::input(case)).or_else(|| sweep::input(case));
@@ -191,6 +201,8 @@ fn all(file: &str) -> Result<(), Box<dyn Error>> {
     std::fs::write(file, chart).map_err(|error| format!("cannot write {file}: {error}"))?;
     println!();
     sweep::measure()?;
+    println!();
+    lookups::measure()?;
     println!();
     descriptors::measure()
 }

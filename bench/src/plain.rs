@@ -457,17 +457,18 @@ impl<'a> Table<'a> {
         lowest.map(usize::from)
     }
 
-    /// The node that a directory's entry of this name leads to.
-    fn lookup(&self, directory: u16, name: &[u8]) -> Option<u16> {
-        self.entries_of(self.node(directory))
-            .iter()
-            .map(Entry::read)
-            .find(|entry| {
-                // Most names differ in length: those are not even read.
-                usize::from(entry.name_len) == name.len()
-                    && self.text[entry.name_at as usize..].starts_with(name)
-            })
-            .map(|entry| entry.node)
+    /// The bytes of an entry's name, in a table that [`check`] has accepted.
+    fn name(&self, record: &[u8; 8]) -> &'a [u8] {
+        let entry = Entry::read(record);
+        &self.text[entry.name_at as usize..][..usize::from(entry.name_len)]
+    }
+
+    /// The entry of this name in a directory, whose names are sorted.
+    fn lookup(&self, directory: u16, name: &[u8]) -> Option<(usize, Entry)> {
+        let directory = self.node(directory);
+        let entries = self.entries_of(directory);
+        let at = entries.binary_search_by(|record| self.name(record).cmp(name)).ok()?;
+        Some((directory.first as usize + at, Entry::read(&entries[at])))
     }
 
     /// The place seen where a mount covers `place`.
@@ -498,6 +499,27 @@ impl<'a> Table<'a> {
         }
         Ok(place)
     }
+}
+
+/// Looks a name up in the directory of a node's number, the table checked first: its
+/// entry and the node that this names.
+pub fn lookup(image: &[u8], node: u64, name: &[u8]) -> Result<(usize, u16), Errno> {
+    check(image).map_err(|_| Errno::EUCLEAN)?;
+    lookup_checked(image, node, name)
+}
+
+/// As [`lookup`], for a table that [`check`] has accepted; any other may panic.
+pub fn lookup_checked(image: &[u8], node: u64, name: &[u8]) -> Result<(usize, u16), Errno> {
+    let table = Table::open(image);
+    if node >= table.nodes.len() as u64 {
+        return Err(Errno::EBADF);
+    }
+    let node = node as u16;
+    if !table.node(node).is_directory() {
+        return Err(Errno::ENOTDIR);
+    }
+    let (number, entry) = table.lookup(node, name).ok_or(Errno::ENOENT)?;
+    Ok((number, entry.node))
 }
 
 /// Resolves a path to a place, the table checked first.
@@ -678,7 +700,8 @@ impl Walk<'_> {
             if component.len() > MAX_NAME {
                 return Err(Errno::ENAMETOOLONG);
             }
-            let number = table.lookup(self.place.node, component).ok_or(Errno::ENOENT)?;
+            let (_, entry) = table.lookup(self.place.node, component).ok_or(Errno::ENOENT)?;
+            let number = entry.node;
             let node = table.node(number);
             match node.kind {
                 DIRECTORY => {

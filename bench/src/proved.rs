@@ -7,6 +7,7 @@
 //! to be the same by it.
 
 use crate::descriptors::{self, Descriptors, Functions};
+use crate::lookups;
 use crate::plain;
 use crate::slots::{Reply, SLOTS};
 use crate::tables::Numbers;
@@ -14,9 +15,10 @@ use crate::walk::{Accepted, UNWRITTEN};
 use data::sequence::Step;
 use ventolaire::{Found, Handle, Refusal, Table};
 use ventolaire_sys::{
-    ventolaire_check, ventolaire_close, ventolaire_descriptors, ventolaire_dup, ventolaire_open,
-    ventolaire_open_accepted, ventolaire_resolve_accepted, ventolaire_set_mark, ventolaire_start,
-    ventolaire_start_accepted, Open,
+    ventolaire_check, ventolaire_close, ventolaire_descriptors, ventolaire_dup,
+    ventolaire_lookup_accepted, ventolaire_open, ventolaire_open_accepted,
+    ventolaire_resolve_accepted, ventolaire_set_mark, ventolaire_start, ventolaire_start_accepted,
+    Open,
 };
 
 pub fn check(image: &[u8]) -> Numbers {
@@ -33,6 +35,13 @@ pub fn accepted(image: &[u8]) -> Accepted<'_> {
     let table = table(image);
     // SAFETY: the library accepted the image, which is borrowed from now on.
     unsafe { Accepted::new(table.image(), ventolaire_resolve_accepted) }
+}
+
+/// The image for lookups by the library, which accepts it.
+pub fn lookups(image: &[u8]) -> lookups::Accepted<'_> {
+    let table = table(image);
+    // SAFETY: the library accepted the image, which is borrowed from now on.
+    unsafe { lookups::Accepted::new(table.image(), ventolaire_lookup_accepted) }
 }
 
 pub fn table(image: &[u8]) -> Table<'_> {

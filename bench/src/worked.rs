@@ -1,6 +1,8 @@
 //! The list of worked cases (tests/cases), asked of every side.
 
 use crate::descriptors;
+#[cfg(feature = "proved")]
+use crate::lookups;
 use crate::plain::{self, Handle};
 #[cfg(feature = "proved")]
 use crate::proved;
@@ -9,8 +11,12 @@ use crate::slots::{Reply, Slots};
 use crate::tables::{Call, Input};
 use data::sequence::Step;
 use data::worked::{self, Asked, Worked};
+#[cfg(feature = "proved")]
+use ventolaire::{FoundName, NameRefusal, Table};
+#[cfg(feature = "proved")]
+use ventolaire_sys::ventolaire_lookup;
 
-/// A table check or a call as an input, None for calls on descriptors.
+/// A table check or a call as an input, None for calls on descriptors and lookups.
 fn input(case: &Worked) -> Option<Input> {
     let call = match &case.asked {
         Asked::Check => Call::Check,
@@ -19,7 +25,7 @@ fn input(case: &Worked) -> Option<Input> {
             path: path.clone(),
             how: how.clone(),
         },
-        Asked::Sequence(_) => return None,
+        Asked::Sequence(_) | Asked::Lookup(_) => return None,
     };
     let mut expected = [0; 6];
     expected[..case.expected.len()].copy_from_slice(&case.expected);
@@ -31,6 +37,7 @@ fn answers(side: Side, case: &Worked) -> Vec<Vec<u64>> {
     let numbers = case.expected.len();
     match (&case.asked, input(case)) {
         (Asked::Sequence(steps), _) => replies(side, &case.image, steps),
+        (Asked::Lookup(lookup), _) => looked_up(side, &case.image, lookup),
         (_, Some(input)) if side.takes_part(&input) => {
             side.answers(&input).iter().map(|answer| answer[..numbers].to_vec()).collect()
         }
@@ -74,6 +81,58 @@ fn last(start: &[u64], steps: &[Step], mut make: impl FnMut(&Step) -> Reply) -> 
     steps.iter().fold(start.to_vec(), |_, step| make(step).to_vec())
 }
 
+/// The answers to a lookup: with the table checked and, where it is accepted, without that and,
+/// of the library, by `bindings/rust`. Those of the plain side tell no names compared.
+fn looked_up(side: Side, image: &[u8], lookup: &worked::Lookup) -> Vec<Vec<u64>> {
+    let (node, name) = (lookup.node, &lookup.name[..]);
+    match side {
+        Side::Plain => {
+            let answer = plain::lookup(image, node, name);
+            let is_accepted = answer != Err(plain::Errno::EUCLEAN);
+            let once_more = is_accepted.then(|| plain::lookup_checked(image, node, name));
+            [answer].into_iter().chain(once_more).map(entry).collect()
+        }
+        Side::Linear => Vec::new(),
+        #[cfg(feature = "proved")]
+        Side::Proved => {
+            // SAFETY: this function takes any bytes for an image.
+            let any = unsafe { lookups::Accepted::new(image, ventolaire_lookup) };
+            let mut answers = vec![any.lookup(node, name)];
+            answers.push(named(ventolaire::lookup(image, node, name)));
+            if let Ok(table) = Table::new(image) {
+                answers.push(proved::lookups(image).lookup(node, name));
+                answers.push(named(table.lookup(node, name)));
+            }
+            answers.iter().map(|answer| answer.to_vec()).collect()
+        }
+    }
+}
+
+/// What the plain side found: errno, entry and node.
+fn entry(answer: Result<(usize, u16), plain::Errno>) -> Vec<u64> {
+    match answer {
+        Ok((entry, node)) => vec![0, entry as u64, node.into()],
+        Err(errno) => vec![errno as u64, 0, 0],
+    }
+}
+
+/// What `bindings/rust` found, in the numbers of the library.
+#[cfg(feature = "proved")]
+fn named(answer: Result<FoundName, NameRefusal>) -> lookups::Numbers {
+    match answer {
+        Ok(FoundName { entry, node, compared, .. }) => [0, entry, node, compared],
+        Err(NameRefusal { errno, compared, .. }) => [errno.number(), 0, 0, compared],
+    }
+}
+
+/// What a side has to answer.
+fn expected(side: Side, case: &Worked) -> &[u64] {
+    match (&case.asked, side) {
+        (Asked::Lookup(_), Side::Plain) => &case.expected[..3],
+        _ => &case.expected,
+    }
+}
+
 /// How many answers of all sides are those of the list, and how many are not;
 /// these are told, with the case's bytes.
 pub fn compare(cases: &[Worked]) -> (usize, usize) {
@@ -81,13 +140,14 @@ pub fn compare(cases: &[Worked]) -> (usize, usize) {
     for case in cases {
         for side in Side::all() {
             for answer in answers(side, case) {
-                if answer == case.expected {
+                let expected = expected(side, case);
+                if answer == expected {
                     passed += 1;
                     continue;
                 }
                 failed += 1;
                 println!("{}: {}", case.name, side.name());
-                println!("  expected {:?}", case.expected);
+                println!("  expected {expected:?}");
                 println!("  got      {answer:?}");
                 println!("  replay {case}");
             }

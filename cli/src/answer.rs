@@ -1,10 +1,11 @@
 //! The answer to one path.
 
-use crate::explain::Explained;
+use crate::asked::Answered;
+use crate::explain::{self, Explained};
 use crate::json::Object;
 use crate::place;
 use std::fmt;
-use ventolaire::{Found, Refusal, UnknownBit};
+use ventolaire::{Errno, Found, Refusal, UnknownBit};
 
 #[derive(Clone, Copy)]
 pub struct Answer {
@@ -25,15 +26,16 @@ impl From<Explained> for Answer {
     }
 }
 
-impl Answer {
-    pub fn json(&self) -> Object {
+impl Answered for Answer {
+    fn is_refused(&self) -> bool {
+        self.result.is_err()
+    }
+
+    fn json(&self) -> Object {
+        let object = Object::new().with("found", self.result.is_ok());
         match self.result {
-            Ok(found) => Object::new().with("found", true).and(found_json(found)),
-            Err(refusal) => {
-                let broken = self.broken.map(|broken| Object::new().with("broken", broken.json()));
-                let more = broken.unwrap_or_default();
-                Object::new().with("found", false).and(refusal_json(refusal, more))
-            }
+            Ok(found) => object.and(found_json(found)),
+            Err(refusal) => object.and(refusal_json(refusal, explain::member(self.broken))),
         }
     }
 }
@@ -64,13 +66,16 @@ pub fn refusal_json(refusal: Refusal, more: Object) -> Object {
         Some(UnknownBit::Resolve(number)) => bit("resolve", number),
         _ => Object::new(),
     };
-    Object::new()
-        .text("error", refusal.errno.name())
-        .with("errno", refusal.errno.number())
+    errno_json(refusal.errno)
         .and(more)
         .and(unknown_bit)
         .with("components", refusal.components)
         .with("links", refusal.links)
+}
+
+/// The members of an errno.
+pub fn errno_json(errno: Errno) -> Object {
+    Object::new().text("error", errno.name()).with("errno", errno.number())
 }
 
 pub fn write_found(f: &mut fmt::Formatter, found: Found) -> fmt::Result {

@@ -11,6 +11,7 @@ pub enum Command {
     Check { image: OsString, json: bool },
     Show { image: OsString, form: Form },
     Resolve(Query),
+    Lookup(Lookup),
     Script { image: OsString, calls: OsString, json: bool },
     Demo { file: Option<OsString>, json: bool },
 }
@@ -24,18 +25,32 @@ pub enum Form {
 
 pub struct Query {
     pub image: OsString,
-    pub source: Source,
+    pub paths: Asked,
     /// The handle, if one is given.
     pub handle: Option<Place>,
     pub mark: bool,
     /// The bytes of the open_how.
     pub how: Vec<u8>,
+}
+
+pub struct Lookup {
+    pub image: OsString,
+    /// The directory, by its number.
+    pub node: u64,
+    pub names: Asked,
+}
+
+/// Paths or names, to be answered one by one.
+pub struct Asked {
+    /// What each of them is.
+    pub what: &'static str,
+    pub source: Source,
     pub json: bool,
 }
 
-/// Where the paths are.
+/// Where the paths or names are.
 pub enum Source {
-    /// Their bytes are the paths': they need not be text.
+    /// Their bytes are these words': they need not be text.
     Given(Vec<OsString>),
     /// In a file, each with this byte at its end.
     List { file: OsString, end: u8 },
@@ -49,9 +64,23 @@ const COMMANDS: &[(&str, &[&str])] = &[
         "resolve",
         &["--handle", "--mark", "--flag", "--resolve", "--how", "--paths-from", "--null", "--json"],
     ),
+    ("lookup", &["--names-from", "--null", "--json"]),
     ("script", &["--json"]),
     ("demo", &["--json"]),
 ];
+
+/// What a command asks one by one, in the words of its usage.
+struct Usage {
+    command: &'static str,
+    what: &'static str,
+    operand: &'static str,
+    list: &'static str,
+}
+
+const PATHS: Usage =
+    Usage { command: "resolve", what: "path", operand: "PATH", list: "--paths-from" };
+const NAMES: Usage =
+    Usage { command: "lookup", what: "name", operand: "NAME", list: "--names-from" };
 
 pub fn read(mut arguments: impl Iterator<Item = OsString>) -> Result<Command, String> {
     let first = arguments.next().ok_or("no command given; see ventolaire --help")?;
@@ -73,6 +102,7 @@ pub fn read(mut arguments: impl Iterator<Item = OsString>) -> Result<Command, St
     match command {
         "check" => Ok(Command::Check { image: only(command, &parts)?, json }),
         "show" => Ok(Command::Show { image: only(command, &parts)?, form: form(&parts)? }),
+        "lookup" => lookup(&parts).map(Command::Lookup),
         "script" => script(&parts),
         "demo" => Ok(Command::Demo { file: demo_file(&parts)?, json }),
         _ => query(&parts).map(Command::Resolve),
@@ -132,30 +162,55 @@ fn query(parts: &Parts) -> Result<Query, String> {
     });
     Ok(Query {
         image: image.clone(),
-        source: source(image, paths, parts)?,
+        paths: asked(&PATHS, image, paths, parts)?,
         handle: handle.transpose()?,
         mark: parts.has("--mark"),
         how: how(parts)?,
-        json: parts.has("--json"),
     })
 }
 
-fn source(image: &OsStr, paths: &[OsString], parts: &Parts) -> Result<Source, String> {
+fn lookup(parts: &Parts) -> Result<Lookup, String> {
+    let (image, rest) = parts.operands.split_first().ok_or("lookup wants IMAGE")?;
+    let (node, names) = rest.split_first().ok_or("lookup wants NODE")?;
+    let wrong = || format!("lookup wants a node's number, not {}", escape::name(node));
+    Ok(Lookup {
+        image: image.clone(),
+        node: number(node).ok_or_else(wrong)?,
+        names: asked(&NAMES, image, names, parts)?,
+    })
+}
+
+/// The paths or names that a command asks for, as operands or by a list.
+fn asked(
+    usage: &Usage,
+    image: &OsStr,
+    operands: &[OsString],
+    parts: &Parts,
+) -> Result<Asked, String> {
+    let Usage { command, what, operand, list } = usage;
     let null = parts.has("--null");
-    match (parts.value("--paths-from"), paths) {
-        (None, _) if null => Err("--null wants --paths-from".into()),
-        (None, []) => Err("resolve wants PATH, or --paths-from".into()),
-        (None, paths) => Ok(Source::Given(paths.to_vec())),
-        (Some(_), [path, ..]) => {
-            Err(format!("--paths-from and the path {} exclude each other", escape::name(path)))
+    let source = match (parts.value(list), operands) {
+        (None, _) if null => return Err(format!("--null wants {list}")),
+        (None, []) => return Err(format!("{command} wants {operand}, or {list}")),
+        (None, operands) => Source::Given(operands.to_vec()),
+        (Some(_), [given, ..]) => {
+            let given = escape::name(given);
+            return Err(format!("{list} and the {what} {given} exclude each other"));
         }
         (Some(file), []) if input::is_stdin(file) && input::is_stdin(image) => {
-            Err("IMAGE and --paths-from cannot both be standard input".into())
+            return Err(format!("IMAGE and {list} cannot both be standard input"));
         }
-        (Some(file), []) => {
-            Ok(Source::List { file: file.clone(), end: if null { 0 } else { b'\n' } })
-        }
-    }
+        (Some(file), []) => Source::List { file: file.clone(), end: if null { 0 } else { b'\n' } },
+    };
+    Ok(Asked { what, source, json: parts.has("--json") })
+}
+
+/// A number in decimal. For one that has no room in 64 bits stands the highest that has, which is
+/// no descriptor and no node either.
+pub fn number(word: &OsStr) -> Option<u64> {
+    let digits = word.to_str().filter(|word| !word.is_empty())?;
+    let is_number = digits.bytes().all(|byte| byte.is_ascii_digit());
+    is_number.then(|| digits.parse().unwrap_or(u64::MAX))
 }
 
 /// The bytes of the open_how that options ask for.

@@ -65,7 +65,7 @@ impl Call {
                 None => format!("{name} wants {}", wanted.join(" ")),
             });
         };
-        let number = read_number(number)
+        let number = arguments::number(number)
             .ok_or_else(|| format!("{name} wants a number, not {}", escape::name(number)))?;
         Ok(Some(Call { name, number, kind }))
     }
@@ -107,11 +107,4 @@ impl Kind {
         };
         Ok(Some((number.as_os_str(), kind)))
     }
-}
-
-/// A number in decimal. One that has no room in 64 bits is above 63 like any other there.
-fn read_number(word: &OsStr) -> Option<u64> {
-    let digits = word.to_str().filter(|word| !word.is_empty())?;
-    let is_number = digits.bytes().all(|byte| byte.is_ascii_digit());
-    is_number.then(|| digits.parse().unwrap_or(u64::MAX))
 }

@@ -1,6 +1,7 @@
 //! The worked examples, answered.
 
 use crate::answer::Answer;
+use crate::asked::Answered;
 use crate::json::{quoted, Object};
 use crate::output::{Failure, Output};
 use crate::{escape, input, place};

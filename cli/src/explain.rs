@@ -2,7 +2,7 @@
 
 use crate::json::Object;
 use std::fmt;
-use ventolaire::{Broken, Cause, Record, Refusal};
+use ventolaire::{Broken, Cause, Record, Table};
 
 /// A broken rule, and what breaks it.
 #[derive(Clone, Copy)]
@@ -11,17 +11,18 @@ pub struct Explained {
     cause: Cause,
 }
 
-impl Explained {
-    pub fn of(broken: Broken, image: &[u8]) -> Self {
-        Explained { broken, cause: broken.cause(image) }
-    }
+/// The table of an image, or why it is refused.
+pub fn table(image: &[u8]) -> Result<Table<'_>, Explained> {
+    Table::new(image).map_err(|broken| Explained { broken, cause: broken.cause(image) })
+}
 
-    /// The answer to every path in such a table.
-    pub fn refusal(&self) -> Refusal {
+impl Explained {
+    /// The answer to every path or name in such a table.
+    pub fn refusal<R: From<Broken>>(&self) -> R {
         self.broken.into()
     }
 
-    pub fn json(&self) -> Object {
+    fn json(&self) -> Object {
         let rule = Object::new().with("rule", self.broken.rule).text("clause", self.cause.clause);
         let charged = match self.cause.record {
             Some(Record::Node(number)) => rule.with("node", number),
@@ -45,9 +46,10 @@ impl fmt::Display for Explained {
 
 /// The verdict on a table.
 pub fn verdict(broken: Option<Explained>) -> Object {
-    let object = Object::new().with("accepted", broken.is_none());
-    match broken {
-        Some(broken) => object.with("broken", broken.json()),
-        None => object,
-    }
+    Object::new().with("accepted", broken.is_none()).and(member(broken))
+}
+
+/// The member that tells why a table is refused, if it is.
+pub fn member(broken: Option<Explained>) -> Object {
+    broken.map(|broken| Object::new().with("broken", broken.json())).unwrap_or_default()
 }

@@ -1,4 +1,4 @@
-//! Images, lists of paths and scripts, from files or standard input.
+//! Images, lists of paths or names, and scripts, from files or standard input.
 
 use crate::escape;
 use std::ffi::OsStr;
@@ -11,9 +11,9 @@ use std::time::{Duration, Instant};
 /// How long an image may be.
 const MAX_IMAGE: u64 = 65_536;
 
-/// How long a path in a list or a line of a script may be: more than any path that
-/// can be found, each byte of it escaped, so that long ones are refused by name, and
-/// less than fills the memory.
+/// How long a path or name in a list or a line of a script may be: more than any path
+/// that can be found, each byte of it escaped, so that long ones are refused by name,
+/// and less than fills the memory.
 const MAX_PART: usize = 65_536;
 
 /// How long a FIFO is waited for that nobody writes to.
@@ -33,7 +33,7 @@ pub fn image(file: &OsStr) -> Result<Vec<u8>, String> {
     Ok(bytes)
 }
 
-/// A file of which one part is read after the other: a list of paths, a script.
+/// A file of which one part is read after the other: a list, a script.
 pub struct Parted<'a> {
     file: &'a OsStr,
     from: BufReader<Box<dyn Read>>,

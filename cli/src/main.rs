@@ -2,6 +2,7 @@
 
 mod answer;
 mod arguments;
+mod asked;
 mod call;
 mod demo;
 mod dot;
@@ -10,6 +11,7 @@ mod explain;
 mod input;
 mod json;
 mod list;
+mod lookup;
 mod options;
 mod output;
 mod place;
@@ -20,11 +22,9 @@ mod show;
 mod words;
 
 use arguments::{Command, Form};
-use explain::Explained;
 use output::{Failure, Output};
 use std::ffi::OsStr;
 use std::process::ExitCode;
-use ventolaire::Table;
 
 const HELP: &str = include_str!("help.txt");
 const VERSION: &str = concat!("ventolaire ", env!("CARGO_PKG_VERSION"), "\n");
@@ -50,6 +50,7 @@ fn run(command: Command, output: &mut Output) -> Result<(), Failure> {
         Command::Check { image, json } => check(&image, json, output),
         Command::Show { image, form } => show(&image, form, output),
         Command::Resolve(query) => resolve::run(&query, output),
+        Command::Lookup(lookup) => lookup::run(&lookup, output),
         Command::Script { image, calls, json } => script::run(&image, &calls, json, output),
         Command::Demo { file, json } => demo::run(file.as_deref(), json, output),
     }
@@ -57,7 +58,7 @@ fn run(command: Command, output: &mut Output) -> Result<(), Failure> {
 
 fn check(file: &OsStr, json: bool, output: &mut Output) -> Result<(), Failure> {
     let image = input::image(file)?;
-    let broken = Table::new(&image).err().map(|broken| Explained::of(broken, &image));
+    let broken = explain::table(&image).err();
     output.refused = broken.is_some();
     match (broken, json) {
         (broken, true) => output.line(explain::verdict(broken)),
@@ -68,10 +69,8 @@ fn check(file: &OsStr, json: bool, output: &mut Output) -> Result<(), Failure> {
 
 fn show(file: &OsStr, form: Form, output: &mut Output) -> Result<(), Failure> {
     let image = input::image(file)?;
-    let table = Table::new(&image).map_err(|broken| {
-        let why = Explained::of(broken, &image);
-        format!("cannot show {}: {why}", escape::name(file))
-    })?;
+    let table = explain::table(&image)
+        .map_err(|why| format!("cannot show {}: {why}", escape::name(file)))?;
     match form {
         Form::Text => output.write(&show::tree(&table)),
         Form::Dot => output.write(&dot::graph(&table)),

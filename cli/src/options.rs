@@ -25,6 +25,7 @@ const OPTIONS: &[Known] = &[
     known("--resolve", "", true),
     known("--how", "", true),
     known("--paths-from", "", true),
+    known("--names-from", "", true),
     known("--null", "-0", false),
 ];
 

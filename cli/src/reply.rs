@@ -2,7 +2,7 @@
 
 use crate::answer::{found_json, refusal_json, write_found, write_refusal};
 use crate::call::{Call, Given};
-use crate::explain::Explained;
+use crate::explain::{self, Explained};
 use crate::json::Object;
 use std::fmt;
 use ventolaire::{Descriptors, Errno, Refusal};
@@ -41,8 +41,7 @@ impl<'a> Reply<'a> {
             Ok(Given::Nothing) => object,
             Err(refusal) => {
                 let why = self.why.as_ref().map(|why| Object::new().text("reason", why));
-                let broken = self.broken.map(|broken| Object::new().with("broken", broken.json()));
-                let more = why.unwrap_or_default().and(broken.unwrap_or_default());
+                let more = why.unwrap_or_default().and(explain::member(self.broken));
                 object.and(refusal_json(*refusal, more))
             }
         }

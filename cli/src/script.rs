@@ -1,18 +1,16 @@
 //! A script of calls on descriptors, answered line by line.
 
 use crate::call::Call;
-use crate::explain::Explained;
+use crate::explain;
 use crate::input::{self, Parted};
 use crate::output::{self, Failure, Output};
 use crate::reply::Reply;
 use std::ffi::OsStr;
-use ventolaire::Table;
 
 pub fn run(file: &OsStr, calls: &OsStr, json: bool, output: &mut Output) -> Result<(), Failure> {
     let image = input::image(file)?;
     let mut lines = Parted::open(calls, "line", b'\n')?;
-    let table = Table::new(&image).map_err(|broken| Explained::of(broken, &image));
-    let mut descriptors = table.map(|table| table.descriptors());
+    let mut descriptors = explain::table(&image).map(|table| table.descriptors());
     if let Err(broken) = &descriptors {
         output.refused = true;
         output::tell(format_args!("no descriptor is open, the image is refused: {broken}"));

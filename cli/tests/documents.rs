@@ -10,7 +10,7 @@ use ventolaire::bench_tree::IMAGE;
 
 const PAGE: &str = include_str!("../../docs/man/ventolaire.1");
 const COMPLETION: &str = include_str!("../../completions/ventolaire.bash");
-const COMMANDS: [&str; 5] = ["check", "show", "resolve", "script", "demo"];
+const COMMANDS: [&str; 6] = ["check", "show", "resolve", "lookup", "script", "demo"];
 
 fn file(name: &str) -> PathBuf {
     Path::new(env!("CARGO_MANIFEST_DIR")).join("..").join(name)
@@ -85,6 +85,17 @@ fn the_man_pages_script_is_answered_so() {
     assert_eq!(answered, (1, answers.into()));
 }
 
+/// So are the names that the man page and the help tell the answers to.
+#[test]
+fn the_names_told_are_answered_so() {
+    let (_, help) = answer(["--help"]);
+    let image = Named::file(IMAGE);
+    for (text, name) in [(PAGE, "tare"), (PAGE, "nope"), (&help, "loop")] {
+        let (_, line) = image.lookup(&["2", name]);
+        assert!(text.contains(line.trim_end()), "{line}");
+    }
+}
+
 /// What bash offers behind these words.
 fn completed(words: &[&str]) -> Vec<String> {
     let script = r#". "$0"; COMP_WORDS=("$@"); COMP_CWORD=$(($# - 1)); _ventolaire
@@ -118,6 +129,10 @@ fn the_completion_completes() {
         ),
         (&["resolve", "x", "--paths-from", "Cargo.t"], &["Cargo.toml"]),
         (&["resolve", "x", "--handle", ""], &[]),
+        (&["l"], &["lookup"]),
+        (&["lookup", "Cargo.t"], &["Cargo.toml"]),
+        (&["lookup", "x", "2", "--n"], &["--names-from", "--null"]),
+        (&["lookup", "x", "2", "--names-from", "Cargo.t"], &["Cargo.toml"]),
         (&["script", "x", "Cargo.t"], &["Cargo.toml"]),
         (&["script", "x", "--j"], &["--json"]),
         (&["nothing", "x"], &[]),

@@ -22,6 +22,8 @@ fn unreadable(file: &str, why: &str) {
             &["show", file],
             &["resolve", file, "a", "b"],
             &["resolve", image.path(), "--paths-from", file],
+            &["lookup", file, "2", "a", "b"],
+            &["lookup", image.path(), "2", "--names-from", file],
             &["script", file],
             &["script", image.path(), file],
         ] {
@@ -36,6 +38,8 @@ fn refused(file: &str, why: &str) {
     assert_eq!(answer(["check", file]), (1, format!("{why}\n")));
     let line = format!("EUCLEAN (117), {why}; 0 components, 0 links\n");
     assert_eq!(answer(["resolve", file, "a"]), (1, line));
+    let line = format!("EUCLEAN (117), {why}; 0 names compared\n");
+    assert_eq!(answer(["lookup", file, "2", "a"]), (1, line));
     for arguments in [&["show", file][..], &["show", file, "--dot"], &["show", file, "--json"]] {
         assert_eq!(error(arguments), format!("cannot show {file}: {why}"));
     }
@@ -92,6 +96,10 @@ fn files_that_are_too_long() {
         format!("path 1 in {} has over 65,536 bytes", long.path())
     );
     assert_eq!(
+        error(["lookup", image.path(), "2", "--names-from", long.path()]),
+        format!("name 1 in {} has over 65,536 bytes", long.path())
+    );
+    assert_eq!(
         error(["script", image.path(), long.path()]),
         format!("line 1 in {} has over 65,536 bytes", long.path())
     );
@@ -130,6 +138,7 @@ fn a_fifo_without_a_writer() {
     assert_eq!(error(["resolve", fifo.path(), "a"]), message);
     let image = Named::file(IMAGE);
     assert_eq!(error(["resolve", image.path(), "--paths-from", fifo.path()]), message);
+    assert_eq!(error(["lookup", image.path(), "2", "--names-from", fifo.path()]), message);
     assert_eq!(error(["script", image.path(), fifo.path()]), message);
     let there = format!("cannot write {}: File exists (os error 17)", fifo.path());
     assert_eq!(error(["demo", fifo.path()]), there);
@@ -180,6 +189,8 @@ fn a_reader_that_leaves_early() {
         (&["show", image.path()], 0),
         (&["resolve", image.path(), "lab", "/"], 0),
         (&["resolve", image.path(), "no", "no"], 1),
+        (&["lookup", image.path(), "2", "up", "t"], 0),
+        (&["lookup", image.path(), "2", "up", "no"], 1),
         (&["script", image.path(), script.path()], 0),
         (&endless, 1),
     ];
@@ -209,6 +220,8 @@ fn a_full_disk() {
         &["show", image.path()],
         &["resolve", image.path(), "lab", "/"],
         &["resolve", image.path(), "--paths-from", "/dev/zero", "-0"],
+        &["lookup", image.path(), "2", "up"],
+        &["lookup", image.path(), "2", "--names-from", "/dev/zero", "-0"],
         &["script", image.path(), script.path()],
     ];
     for arguments in rows {

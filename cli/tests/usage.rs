@@ -11,7 +11,9 @@ fn help_and_version_are_given() {
     let (status, help) = answer(["--help"]);
     assert_eq!(status, 0);
     assert!(help.contains("USAGE") && help.contains("EXIT STATUS") && help.contains("(default: "));
-    for arguments in [&["-h"][..], &["help"], &["resolve", "--help"], &["script", "-h"]] {
+    for arguments in
+        [&["-h"][..], &["help"], &["resolve", "--help"], &["lookup", "--help"], &["script", "-h"]]
+    {
         assert_eq!(answer(arguments), (0, help.clone()));
     }
     for name in names() {
@@ -67,6 +69,41 @@ fn wrong_usage_is_told_in_one_line() {
 }
 
 #[test]
+fn wrong_usage_of_lookup_is_told_in_one_line() {
+    let rows: &[(&[&str], &str)] = &[
+        (&["lookup"], "lookup wants IMAGE"),
+        (&["lookup", "a"], "lookup wants NODE"),
+        (&["lookup", "a", "2"], "lookup wants NAME, or --names-from"),
+        (&["lookup", "a", "--names-from", "c"], "lookup wants NODE"),
+        (&["lookup", "a", "cal", "tare"], "lookup wants a node's number, not cal"),
+        (&["lookup", "a", "0:2", "tare"], "lookup wants a node's number, not 0:2"),
+        (&["lookup", "a", "+2", "tare"], "lookup wants a node's number, not +2"),
+        (&["lookup", "a", "0x2", "tare"], "lookup wants a node's number, not 0x2"),
+        (&["lookup", "a", "2 ", "tare"], "lookup wants a node's number, not 2 "),
+        (&["lookup", "a", "", "tare"], "lookup wants a node's number, not "),
+        (&["lookup", "a", "\u{661}", "tare"], "lookup wants a node's number, not \u{661}"),
+        (&["lookup", "a", "-1", "tare"], "there is no option -1"),
+        (&["lookup", "a", "--", "-1", "tare"], "lookup wants a node's number, not -1"),
+        (&["lookup", "a", "2", "b", "-0"], "--null wants --names-from"),
+        (
+            &["lookup", "a", "2", "b", "--names-from", "c"],
+            "--names-from and the name b exclude each other",
+        ),
+        (
+            &["lookup", "-", "2", "--names-from", "-"],
+            "IMAGE and --names-from cannot both be standard input",
+        ),
+        (&["lookup", "a", "2", "--names-from"], "--names-from wants a value"),
+        (&["lookup", "a", "2", "--paths-from", "c"], "lookup has no option --paths-from"),
+        (&["lookup", "a", "2", "b", "--handle", "0:2"], "lookup has no option --handle"),
+        (&["resolve", "a", "--names-from", "c"], "resolve has no option --names-from"),
+    ];
+    for (arguments, text) in rows {
+        assert_eq!(error(*arguments), *text, "{arguments:?}");
+    }
+}
+
+#[test]
 fn wrong_usage_of_script_is_told_in_one_line() {
     let rows: &[(&[&str], &str)] = &[
         (&["script"], "script wants IMAGE"),
@@ -115,11 +152,12 @@ fn messages_are_escaped() {
     let odd = bytes(b"\x1b[2J\n\xff\xe2\x80\xae");
     let shown = "\\x1b[2J\\n\\xff\\u202e";
     let no_file = format!("cannot read {shown}: No such file or directory (os error 2)");
-    let [check, resolve, demo] = ["check", "resolve", "demo"].map(OsString::from);
+    let [check, resolve, lookup, demo] = ["check", "resolve", "lookup", "demo"].map(OsString::from);
     assert!(error([odd.clone()]).contains(shown));
     assert_eq!(error([check.clone(), odd.clone()]), no_file);
     assert_eq!(error([resolve.clone(), odd.clone(), "a".into()]), no_file);
     assert!(error([check.clone(), "a".into(), odd.clone()]).ends_with(shown));
+    assert!(error([lookup, "a".into(), odd.clone(), "b".into()]).ends_with(shown));
     let there = bytes(b"/no/\x07");
     assert!(error([demo, there]).starts_with("cannot write /no/\\x07: "));
     let option = bytes(b"--\xff=\x1b");

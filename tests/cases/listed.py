@@ -1,7 +1,8 @@
 """The list of cases, and the words that it is written in.
 
 A group has a title, `says` quotes the wording of the rules that the cases after it follow from, with their numbers in
-docs/RULES.md, and a case is a call or a table check with the answer that these give. No answer is computed: each is written down.
+docs/RULES.md, and a case is a call, a table check or a lookup with the answer that these give. No answer is computed: each is written
+down.
 
 Descriptors are used in sequences: `start` makes them, and each `open_path`, `dup`, `close` and `set_mark` after it, up to the next `start`,
 is a case that finds them as the calls before have left them. A sequence's cases have its name and their number in it."""
@@ -24,7 +25,7 @@ RESOLVE = {1: "NO_XDEV", 2: "NO_MAGICLINKS", 4: "NO_SYMLINKS", 8: "BENEATH", 16:
 LAB = (0, 1)
 
 # The kinds of records.
-CHECK, CALL, START, OPEN, DUP, CLOSE, SET_MARK = range(1, 8)
+CHECK, CALL, START, OPEN, DUP, CLOSE, SET_MARK, LOOKUP = range(1, 9)
 
 
 def found(mount, node, components, links):
@@ -38,6 +39,20 @@ def refused(errno, components=0, links=0, detail=255):
 def given(descriptor, mount=0, node=0, components=0, links=0):
     """What an open answers that gives a descriptor; a dup tells no place and no counts."""
     return found(mount, node, components, links) + (descriptor,)
+
+
+def named(entry, node, compared):
+    """What a lookup answers that finds an entry, with how many names were compared."""
+    return (0, entry, node, compared)
+
+
+def unnamed(errno, compared=0):
+    """What one answers that finds none. Only ENOENT has compared any."""
+    return (errno, 0, 0, compared)
+
+
+def absent(compared):
+    return unnamed(ENOENT, compared)
 
 
 DONE = found(0, 0, 0, 0)
@@ -130,6 +145,16 @@ def check(name, image, answer, shown, family=None):
     _add(Case(name, image, answer, shown, family))
 
 
+def lookup(name, node, asked, answer, table=None, shown=None):
+    """A name that is asked for in the directory `node`; of another table than that of the calls if an image is given, and its name."""
+    asked = asked if isinstance(asked, bytes) else asked.encode()
+    image, where = table or (_now["image"], f"`{_now['over']}`")
+    words = f"node {_shown(node)}: {shown or _text(asked)}"
+    case = Case(name, image, answer, words if where == "`bench`" else f"{where}, {words}", None)
+    case.kind, case.path, case.node = LOOKUP, asked, node
+    _add(case)
+
+
 def start(name, answer=ACCEPTED, image=None, shown=None):
     """Begins a sequence of calls on descriptors, over a table that may be refused."""
     _now["sequence"], _now["made"] = name, 0
@@ -179,6 +204,9 @@ def in_words(case):
     if case.kind in (CHECK, START):
         rule, record = case.answer
         return "accepted" if rule == 0 else f"rule {rule}, record {record}"
+    if case.kind == LOOKUP:
+        errno, entry, node, compared = case.answer
+        return (ERRNOS[errno] if errno else f"entry {entry}, node {node}") + f"; {compared}"
     errno, detail, mount, node, components, links = case.answer[:6]
     counts = f"; {components},{links}"
     if errno != 0:

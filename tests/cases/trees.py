@@ -260,3 +260,115 @@ def most():
         t.file()
     t.directory(top, "z")
     return t.image()
+
+
+def sized():
+    """Directories 0 top, without names, and in it, themselves unnamed, 1 with 1 name, 2 with 2, 3 with 3, 4 with 7, 5 with 8 and 6 with 10:
+    as many as that of "b", "d", "f", "h", "j", "l", "n", "p", "r", "t". The first name of each is for file 7, the second for file 8 and so
+    on to 16. So their first entries are 0, 1, 3, 6, 13 and 21."""
+    t = Tree()
+    top = t.top()
+    at = t.put(b"bdfhjlnprt")
+    sizes = [1, 2, 3, 7, 8, 10]
+    directories = [t.directory(top) for _ in sizes]
+    files = [t.file() for _ in range(10)]
+    for directory, size in zip(directories, sizes):
+        t.names[directory] = {t.text[at + i : at + i + 1]: (at + i, files[i]) for i in range(size)}
+    return t.mount(top).image()
+
+
+def of_names(names):
+    """A top with names, entries 0, 1 and so on, each for the file numbered one higher. Those that begin others share their text."""
+    t = Tree()
+    top = t.top()
+    names = [name if isinstance(name, bytes) else name.encode() for name in names]
+    assert names == sorted(names)
+    for name in sorted(names, key=len, reverse=True):
+        if name not in t.text:
+            t.put(name)
+    t.names[top] = {name: (t.text.find(name), t.file()) for name in names}
+    return t.mount(top).image()
+
+
+def begun():
+    """Names in the top that begin others: "a", "aa", "aaa", "aab", "ab", "aba", "b", "ba". Entries 0 to 7, for files 1 to 8."""
+    return of_names(["a", "aa", "aaa", "aab", "ab", "aba", "b", "ba"])
+
+
+def high():
+    """Names in the top with bytes above 127: 7A, 7F, 80, C3 A9, FE, FF, FF FF. Entries 0 to 6, for files 1 to 7."""
+    return of_names([b"\x7a", b"\x7f", b"\x80", b"\xc3\xa9", b"\xfe", b"\xff", b"\xff\xff"])
+
+
+def lengths():
+    """Names in the top of 3, 4, 5, 7, 8, 9, 16, 31, 32, 33 and 255 bytes, all of them `n`. Entries 0 to 10, for files 1 to 11."""
+    return of_names([b"n" * length for length in (3, 4, 5, 7, 8, 9, 16, 31, 32, 33, 255)])
+
+
+def pairs():
+    """Directories 1 to 9 in the top, all of them unnamed, each with two names of one length, for files 10 and 11: of 4, 7, 8, 9, 16, 31, 32,
+    33 and 255 bytes. The first begins with `a` and ends in `z`, the second begins with `b` and ends in `a`; between is `n`. Directory d has
+    entries 2 d - 2 and 2 d - 1."""
+    t = Tree()
+    top = t.top()
+    lengths = [4, 7, 8, 9, 16, 31, 32, 33, 255]
+    directories = [t.directory(top) for _ in lengths]
+    files = [t.file(), t.file()]
+    for directory, length in zip(directories, lengths):
+        between = b"n" * (length - 2)
+        t.name(directory, b"a" + between + b"z", files[0])
+        t.name(directory, b"b" + between + b"a", files[1])
+    return t.mount(top).image()
+
+
+def placed():
+    """13 names of 40 bytes in the top: `m` at one place and `n` at all others, at places 0, 3, 4, 7, 8, 9, 15, 16, 30, 31, 32, 33 and 39,
+    counted from 0. Entries 0 to 12 in this order, for files 1 to 13."""
+    return of_names([b"n" * at + b"m" + b"n" * (39 - at) for at in (0, 3, 4, 7, 8, 9, 15, 16, 30, 31, 32, 33, 39)])
+
+
+def late():
+    """13 names in the top, alike in their first 200 bytes, which are `n`. Then nothing, `a`, `aa`, `aaa`, `ab`, `abc`, `b`, `ba`, `c`, `d`,
+    54 and 55 times `x`, and `y`. Entries 0 to 12, for files 1 to 13."""
+    return of_names(["n" * 200 + end for end in ("", "a", "aa", "aaa", "ab", "abc", "b", "ba", "c", "d", "x" * 54, "x" * 55, "y")])
+
+
+def twins():
+    """Two names of 255 bytes in the top: 254 times `n`, then `a`, file 1; the same, then `b`, file 2."""
+    return of_names(["n" * 254 + "a", "n" * 254 + "b"])
+
+
+def dozens():
+    """Directories 1 and 2 in the top, all of them unnamed, with 12 and 13 names of 7 and 8 bytes: "entry-b", "entry-bx", "entry-d",
+    "entry-dx" and so on by "f", "h" and "j" to "entry-l", "entry-lx", and in 2 also "entry-n". Entries 0 to 11 and 12 to 24; the first
+    name of each is for file 3, the second for file 4 and so on to 15."""
+    t = Tree()
+    top = t.top()
+    directories = [t.directory(top), t.directory(top)]
+    names = [b"entry-" + letter + more for letter in (b"b", b"d", b"f", b"h", b"j", b"l") for more in (b"", b"x")] + [b"entry-n"]
+    files = [t.file() for _ in names]
+    for directory, size in zip(directories, (12, 13)):
+        for name, f in zip(names[:size], files):
+            t.name(directory, name, f)
+    return t.mount(top).image()
+
+
+def of_runs(first, second):
+    """Names in the top of i times `a`, then j times `b`, for i below `first` and j from 1 to `second`, all in one text; file 1 + i."""
+    t = Tree()
+    top = t.top()
+    files = [t.file() for _ in range(first)]
+    at = t.put(b"a" * (first - 1) + b"b" * second)
+    t.names[top] = {b"a" * i + b"b" * j: (at + first - 1 - i, files[i]) for i in range(first) for j in range(1, second + 1)}
+    return t.mount(top).image()
+
+
+def runs():
+    """3,000 names in the top: i times `a`, then j times `b`, for i from 0 to 49 and j from 1 to 60, for file 1 + i. Those with more `a` come
+    first, then those with fewer `b`: a name is entry 60 (49 - i) + j - 1."""
+    return of_runs(50, 60)
+
+
+def full():
+    """4,096 names in the top, made like those of `runs` with i from 0 to 63 and j from 1 to 64: a name is entry 64 (63 - i) + j - 1."""
+    return of_runs(64, 64)

@@ -1,11 +1,12 @@
 /*
  * Fuzzes the C interface: any bytes as image, path and open_how, any numbers as
- * descriptors.
+ * descriptors, any name looked up in any directory.
  *
  * One input is 8 bytes, then the path, the open_how and the image:
  *
  *   byte  0      bit 0 the mark; bit 1 mend the image's header; bits 2 to 4 a
- *                length of `out` that is too short; bit 5 calls on descriptors
+ *                length of `out` that is too short; bit 5 calls on descriptors;
+ *                bit 6 a lookup
  *   byte  1      the mount
  *   bytes 2, 3   the node
  *   bytes 4, 5   length of the path     (numbers are little-endian, and lengths
@@ -13,7 +14,8 @@
  *
  * With bit 5 set, calls stand in the path's place (descriptors.c says how), and in
  * the open_how's the numbers of slots, 8 bytes each; without any, descriptors are
- * started.
+ * started. With bit 6 set, and not bit 5, the path is a name that is looked up, and
+ * bytes 1 to 3 tell the directory (lookup.c).
  *
  * The library is not instrumented. So that reads beyond what is lent are seen
  * all the same, each part ends where a page begins that nobody may touch; and
@@ -57,7 +59,7 @@ uint8_t *place(struct fence fence, const uint8_t *bytes, size_t len)
 #define ANSWERS (1 << 15)
 __attribute__((section("__libfuzzer_extra_counters"))) static uint8_t counters[CHECKS + ANSWERS];
 
-static size_t magnitude(uint64_t number)
+size_t digits(uint64_t number)
 {
     size_t bits = 0;
     for (; number != 0; number >>= 1)
@@ -72,13 +74,17 @@ static void note_check(const uint64_t *checked)
     counters[(rule & 7) * 256 + (record < 256 ? record : 255)]++;
 }
 
+void note(size_t kind)
+{
+    counters[CHECKS + kind * 2654435761u % ANSWERS]++;
+}
+
 void note_answer(size_t kind, const uint64_t *answer)
 {
     kind = kind * 128 + (size_t)answer[VENTOLAIRE_ANSWER_ERRNO];
     kind = kind * 64 + (size_t)answer[VENTOLAIRE_ANSWER_LINKS];
-    kind = kind * 32 + magnitude(answer[VENTOLAIRE_ANSWER_COMPONENTS]);
-    kind = kind * 256 + (size_t)(answer[VENTOLAIRE_ANSWER_DETAIL] & 255);
-    counters[CHECKS + kind * 2654435761u % ANSWERS]++;
+    kind = kind * 32 + digits(answer[VENTOLAIRE_ANSWER_COMPONENTS]);
+    note(kind * 256 + (size_t)(answer[VENTOLAIRE_ANSWER_DETAIL] & 255));
 }
 
 #define GUARD UINT64_C(0xA55A3CC3F00F9669)
@@ -294,6 +300,8 @@ static void run(const uint8_t *head, const uint8_t *data, size_t size)
         script.numbers_len = lent.how_len;
         script.too_short = too_short % VENTOLAIRE_REPLY_LEN;
         run_script(script, lent);
+    } else if (head[0] & 64) {
+        run_lookup(&lent, head, accepted, too_short % VENTOLAIRE_LOOKUP_LEN);
     } else {
         struct handle handle = {head[1], number_at(head + 2, 2), head[0] & 1};
         run_call(&lent, handle, accepted, too_short % VENTOLAIRE_ANSWER_LEN);

@@ -1,5 +1,5 @@
-/* What both halves of the fuzz target use: the resolver's (fuzz.c) and the
- * descriptors' (descriptors.c). */
+/* What the parts of the fuzz target use: the resolver's (fuzz.c), the descriptors'
+ * (descriptors.c) and that of lookups (lookup.c). */
 #ifndef FUZZ_H
 #define FUZZ_H
 
@@ -51,7 +51,11 @@ const uint8_t *cut(const uint8_t **data, size_t *size, size_t *len);
 void require_answer(const uint64_t *answer);
 void require_place(const uint64_t *answer, const struct lent *lent);
 
+/* How many binary digits a number has. */
+size_t digits(uint64_t number);
+
 /* Counts a kind of answer as something that was reached. */
+void note(size_t kind);
 void note_answer(size_t kind, const uint64_t *answer);
 
 /* Calls of an input on descriptors over the image of `lent`, with slots that these
@@ -68,5 +72,8 @@ struct script {
 };
 
 void run_script(struct script script, struct lent lent);
+
+/* The lookup of the path's bytes in the directory that an input's first bytes tell. */
+void run_lookup(const struct lent *lent, const uint8_t *head, bool accepted, size_t too_short);
 
 #endif

@@ -20,6 +20,10 @@ size_t __real_ventolaire_open(const uint8_t *, size_t, slots *, uint64_t, bool,
 size_t __real_ventolaire_open_accepted(const uint8_t *, size_t, slots *, uint64_t, bool,
                                        const uint8_t *, size_t, const uint8_t *, size_t,
                                        uint64_t *, size_t);
+size_t __real_ventolaire_lookup(const uint8_t *, size_t, uint64_t, const uint8_t *, size_t,
+                                uint64_t *, size_t);
+size_t __real_ventolaire_lookup_accepted(const uint8_t *, size_t, uint64_t,
+                                         const uint8_t *, size_t, uint64_t *, size_t);
 
 static bool is_done(size_t written, const uint64_t *out)
 {
@@ -116,5 +120,91 @@ size_t __wrap_ventolaire_open_accepted(const uint8_t *image, size_t image_len, s
         table->slots[out[VENTOLAIRE_REPLY_DESCRIPTOR]] ^= 4;
     if (FAULT == 14 && is_done(written, out)) /* in both */
         table->slots[out[VENTOLAIRE_REPLY_DESCRIPTOR]] = table->slots[number];
+    return written;
+}
+
+/* The first entry of a directory, which was found to be one. */
+static uint64_t first_of(const uint8_t *image, uint64_t node)
+{
+    const uint8_t *first = image + 20 + 12 * node + 4;
+    return first[0] | (uint64_t)first[1] << 8;
+}
+
+/* What is asked of both functions that look a name up. */
+static void change_asked(uint64_t *node, const uint8_t *name, size_t *name_len)
+{
+    if (FAULT == 15) /* the directory's low 16 bits alone */
+        *node &= 0xFFFF;
+    if (FAULT == 16) /* the low 32 */
+        *node &= 0xFFFFFFFF;
+    if (FAULT == 17 && *name_len > 0 && memchr(name, 0, *name_len) != NULL)
+        *name_len = strlen((const char *)name); /* a zero byte ends it */
+    if (FAULT == 18 && *name_len > 255)         /* the name's first 255 bytes alone */
+        *name_len = 255;
+    if (FAULT == 19) /* the low 8 bits of its length */
+        *name_len &= 255;
+    if (FAULT == 20) /* a byte behind the name is read */
+        (void)*(const volatile uint8_t *)(name + *name_len);
+    if (FAULT == 21 && *name_len > 0) /* the name is changed */
+        ((uint8_t *)(uintptr_t)name)[*name_len - 1] ^= 1;
+}
+
+/* What both of them answer. */
+static void change_answer(const uint8_t *image, uint64_t node, uint64_t *out, size_t out_len)
+{
+    uint64_t error = out[VENTOLAIRE_LOOKUP_ERRNO];
+    bool is_found = error == 0, is_absent = error == VENTOLAIRE_ENOENT;
+    if (FAULT == 22 && is_found) /* the entry by its place in the directory */
+        out[VENTOLAIRE_LOOKUP_ENTRY] -= first_of(image, node);
+    if (FAULT == 23 && is_found) /* the node in place of the entry */
+        out[VENTOLAIRE_LOOKUP_ENTRY] = out[VENTOLAIRE_LOOKUP_NODE];
+    if (FAULT == 24 && is_found) /* the equal name is not counted */
+        out[VENTOLAIRE_LOOKUP_COMPARED]--;
+    if (FAULT == 25 && is_absent) /* only an equal name is counted */
+        out[VENTOLAIRE_LOOKUP_COMPARED] = 0;
+    if (FAULT == 26 && is_absent && out[VENTOLAIRE_LOOKUP_COMPARED] > 2) /* one name too many */
+        out[VENTOLAIRE_LOOKUP_COMPARED]++;
+    if (FAULT == 27 && is_absent) /* a refusal with an entry */
+        out[VENTOLAIRE_LOOKUP_ENTRY] = 1;
+    if (FAULT == 28 && error == VENTOLAIRE_ENOTDIR) /* a count without a search */
+        out[VENTOLAIRE_LOOKUP_COMPARED] = 1;
+    if (FAULT == 29 && error == VENTOLAIRE_ENOTDIR) /* another error */
+        out[VENTOLAIRE_LOOKUP_ERRNO] = VENTOLAIRE_EBADF;
+    if (FAULT == 30 && error == VENTOLAIRE_EUCLEAN && node > 4096) /* EBADF before all else */
+        out[VENTOLAIRE_LOOKUP_ERRNO] = VENTOLAIRE_EBADF;
+    if (FAULT == 31 && is_found && out[VENTOLAIRE_LOOKUP_ENTRY] == first_of(image, node)) {
+        /* the first name is not found */
+        out[VENTOLAIRE_LOOKUP_ERRNO] = VENTOLAIRE_ENOENT;
+        out[VENTOLAIRE_LOOKUP_ENTRY] = out[VENTOLAIRE_LOOKUP_NODE] = 0;
+    }
+    if (FAULT == 32 && out_len > VENTOLAIRE_LOOKUP_LEN) /* a number behind the answer */
+        out[VENTOLAIRE_LOOKUP_LEN] = 0;
+}
+
+size_t __wrap_ventolaire_lookup(const uint8_t *image, size_t image_len, uint64_t node,
+                                const uint8_t *name, size_t name_len,
+                                uint64_t *out, size_t out_len)
+{
+    change_asked(&node, name, &name_len);
+    size_t written = __real_ventolaire_lookup(image, image_len, node, name, name_len,
+                                              out, out_len);
+    if (written != 0)
+        change_answer(image, node, out, out_len);
+    if (FAULT == 33 && written == 0 && out_len > 0) /* written into too little room */
+        out[0] = 0;
+    return written;
+}
+
+size_t __wrap_ventolaire_lookup_accepted(const uint8_t *image, size_t image_len, uint64_t node,
+                                         const uint8_t *name, size_t name_len,
+                                         uint64_t *out, size_t out_len)
+{
+    change_asked(&node, name, &name_len);
+    size_t written = __real_ventolaire_lookup_accepted(image, image_len, node, name, name_len,
+                                                       out, out_len);
+    if (written != 0)
+        change_answer(image, node, out, out_len);
+    if (FAULT == 34 && written != 0) /* no count without the check */
+        out[VENTOLAIRE_LOOKUP_COMPARED] = 0;
     return written;
 }

@@ -1,6 +1,7 @@
 /* Writes inputs to start fuzzing from into a folder: the bench tree's image with
- * paths of different kinds, and with slots of any numbers and calls on them. See
- * fuzz.c and descriptors.c for what an input looks like. */
+ * paths of different kinds, with slots of any numbers and calls on them, and with
+ * names that are looked up, also in a larger directory. See fuzz.c, descriptors.c and
+ * lookup.c for what an input looks like. */
 
 #include <stdbool.h>
 #include <stdint.h>
@@ -45,17 +46,83 @@ static const struct {
     {0x10001, 3},
 };
 
+/* Names that are looked up in the bench tree, and the bytes 1 to 3 of their inputs. */
+static const struct {
+    const char *name;
+    uint8_t directory[3];
+} names[] = {
+    {"loop", {0, 2, 0}},
+    {"tar", {0, 2, 0}},
+    {"tares", {0, 2, 0}},
+    {"pool", {0, 1, 0}},
+    {"run", {0, 7, 0}},
+    {"cal", {0, 3, 0}},
+    {"cal", {0, 12, 0}},
+    {"cal", {1, 1, 0}},
+    {"cal", {128, 1, 0}},
+};
+
+/* Names of the directory below: so many times `a`, then so many times `b`. */
+static const struct {
+    size_t first, second;
+} runs[] = {
+    {14, 1},
+    {7, 9},
+    {7, 18},
+    {0, 17},
+    {0, 18},
+};
+
+/* A table whose top has 255 names for one file, all of them in one text: up to 14
+ * times `a`, then 1 to 17 times `b`. Those with more `a` come first. */
+#define NAMES 255
+#define TEXT (14 + 17)
+
+static uint8_t many[20 + 2 * 12 + 8 + 8 * NAMES + TEXT];
+
+static void fill_many(void)
+{
+    static const uint8_t head[20] = {
+        'T', 'O', 'C', '1', 2, 0, 1, 0, NAMES, 0, 0, 0, TEXT, 0, 0, 0,
+        sizeof many & 255, sizeof many >> 8, 0, 0};
+    static const uint8_t nodes[24] = {1, 0, 0, 0, 0, 0, 0, 0, NAMES, 0, 0, 0, 2};
+    uint8_t *entry = many + 20 + 24 + 8;
+    memcpy(many, head, sizeof head);
+    memcpy(many + 20, nodes, sizeof nodes);
+    for (int at = 0; at < 15; at++)
+        for (int b = 1; b <= 17; b++, entry += 8) {
+            entry[0] = (uint8_t)at;
+            entry[4] = (uint8_t)(14 - at + b);
+            entry[6] = 1;
+        }
+    memset(entry, 'a', 14);
+    memset(entry + 14, 'b', 17);
+}
+
+struct bytes {
+    const void *bytes;
+    size_t len;
+};
+
+static const struct bytes nothing = {"", 0};
+static const struct bytes bench = {bench_tree, sizeof bench_tree};
+
+static bool put(FILE *file, struct bytes part)
+{
+    return fwrite(part.bytes, 1, part.len, file) == part.len;
+}
+
 static bool write_input(const char *folder, const char *kind, size_t i, const uint8_t head[8],
-                        const void *first, size_t first_len, const void *second, size_t second_len)
+                        struct bytes first, struct bytes second, struct bytes image)
 {
     char name[4096];
     snprintf(name, sizeof name, "%s/%s-%u", folder, kind, (unsigned)i);
     FILE *file = fopen(name, "wb");
     if (file == NULL
-        || fwrite(head, 8, 1, file) != 1
-        || fwrite(first, first_len, 1, file) != 1
-        || fwrite(second, second_len, 1, file) != 1
-        || fwrite(bench_tree, sizeof bench_tree, 1, file) != 1
+        || !put(file, (struct bytes){head, 8})
+        || !put(file, first)
+        || !put(file, second)
+        || !put(file, image)
         || fclose(file) != 0) {
         perror(name);
         return false;
@@ -71,7 +138,8 @@ static bool write_call(const char *folder, size_t i)
                        VENTOLAIRE_HOW_SIZE, 0};
     uint8_t how[VENTOLAIRE_HOW_SIZE];
     ventolaire_how(how, seeds[i].flags, seeds[i].resolve);
-    return write_input(folder, "seed", i, head, seeds[i].path, path_len, how, sizeof how);
+    return write_input(folder, "seed", i, head, (struct bytes){seeds[i].path, path_len},
+                       (struct bytes){how, sizeof how}, bench);
 }
 
 static bool write_slots(const char *folder, size_t i)
@@ -81,7 +149,30 @@ static bool write_slots(const char *folder, size_t i)
     for (size_t slot = 0; slot < VENTOLAIRE_DESCRIPTORS; slot += filled[i].step)
         for (size_t at = 0; at < 8; at++)
             numbers[8 * slot + at] = (uint8_t)(filled[i].number >> 8 * at);
-    return write_input(folder, "slots", i, head, calls, sizeof calls, numbers, sizeof numbers);
+    return write_input(folder, "slots", i, head, (struct bytes){calls, sizeof calls},
+                       (struct bytes){numbers, sizeof numbers}, bench);
+}
+
+static bool write_lookup(const char *folder, size_t i)
+{
+    const uint8_t *directory = names[i].directory;
+    size_t len = strlen(names[i].name);
+    /* A room of 0 to 3 numbers is tried too. */
+    uint8_t head[8] = {(uint8_t)(64 | i % 4 << 2), directory[0], directory[1], directory[2],
+                       (uint8_t)len};
+    return write_input(folder, "lookup", i, head, (struct bytes){names[i].name, len},
+                       nothing, bench);
+}
+
+static bool write_run(const char *folder, size_t i)
+{
+    uint8_t name[64];
+    size_t len = runs[i].first + runs[i].second;
+    uint8_t head[8] = {64, 0, 0, 0, (uint8_t)len};
+    memset(name, 'a', runs[i].first);
+    memset(name + runs[i].first, 'b', runs[i].second);
+    return write_input(folder, "run", i, head, (struct bytes){name, len}, nothing,
+                       (struct bytes){many, sizeof many});
 }
 
 int main(int argc, char **argv)
@@ -99,6 +190,13 @@ int main(int argc, char **argv)
             return 1;
     for (size_t i = 0; i < sizeof filled / sizeof *filled; i++)
         if (!write_slots(argv[1], i))
+            return 1;
+    for (size_t i = 0; i < sizeof names / sizeof *names; i++)
+        if (!write_lookup(argv[1], i))
+            return 1;
+    fill_many();
+    for (size_t i = 0; i < sizeof runs / sizeof *runs; i++)
+        if (!write_run(argv[1], i))
             return 1;
     return 0;
 }

@@ -206,8 +206,8 @@ impl fmt::Display for UnknownBit {
 /// Why a table is not accepted: the lowest rule broken, 1 to 7, and the lowest
 /// record that breaks it. [`Broken::cause`] says in words what in it does.
 ///
-/// As a [`Refusal`] or a `std::io::Error` it is `EUCLEAN`, the answer to every call
-/// on such a table.
+/// As a [`Refusal`], a [`NameRefusal`](crate::NameRefusal) or a `std::io::Error` it is
+/// `EUCLEAN`, the answer to every call on such a table.
 ///
 /// ```
 /// use ventolaire::{bench_tree, Errno, Refusal, Table};

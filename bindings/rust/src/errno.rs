@@ -24,7 +24,8 @@ pub enum Errno {
     ENAMETOOLONG,
     /// The path is empty, a name is not there, or the handle's mark is broken.
     ENOENT,
-    /// The handle is not a place that a handle can have, or the descriptor is not open.
+    /// The handle is not a place that a handle can have, the descriptor is not open, or there is
+    /// no node of that number to look a name up in.
     EBADF,
     /// Not a directory where one is needed.
     ENOTDIR,

@@ -5,9 +5,10 @@
 
 use crate::{Handle, Table};
 use ventolaire_sys::{
-    ventolaire_check, ventolaire_close, ventolaire_dup, ventolaire_open_accepted,
-    ventolaire_resolve, ventolaire_resolve_accepted, ventolaire_set_mark,
-    ventolaire_start_accepted, Open, Resolve, VENTOLAIRE_DESCRIPTORS,
+    ventolaire_check, ventolaire_close, ventolaire_dup, ventolaire_lookup,
+    ventolaire_lookup_accepted, ventolaire_open_accepted, ventolaire_resolve,
+    ventolaire_resolve_accepted, ventolaire_set_mark, ventolaire_start_accepted, Lookup, Open,
+    Resolve, VENTOLAIRE_DESCRIPTORS,
 };
 
 /// The descriptors of a script.
@@ -66,6 +67,39 @@ unsafe fn resolve_by(
             path.len(),
             how.as_ptr(),
             how.len(),
+            out.as_mut_ptr(),
+            out.len(),
+        )
+    };
+    out
+}
+
+/// Errno, entry, node and names compared.
+pub fn lookup(image: &[u8], node: u64, name: &[u8]) -> [u64; 4] {
+    // SAFETY: this function takes any bytes for an image.
+    unsafe { lookup_by(ventolaire_lookup, image, node, name) }
+}
+
+/// As [`lookup`], without the table check.
+pub fn lookup_accepted(table: &Table, node: u64, name: &[u8]) -> [u64; 4] {
+    // SAFETY: the image is a table's, so it was accepted.
+    unsafe { lookup_by(ventolaire_lookup_accepted, table.image(), node, name) }
+}
+
+/// # Safety
+///
+/// The image is one that the function takes.
+#[inline]
+unsafe fn lookup_by(function: Lookup, image: &[u8], node: u64, name: &[u8]) -> [u64; 4] {
+    let mut out = [UNWRITTEN; 4];
+    // SAFETY: as in `check`; `name` is read as `image` is.
+    unsafe {
+        function(
+            image.as_ptr(),
+            image.len(),
+            node,
+            name.as_ptr(),
+            name.len(),
             out.as_mut_ptr(),
             out.len(),
         )

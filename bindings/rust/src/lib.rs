@@ -11,6 +11,7 @@ mod errno;
 #[allow(unsafe_code)]
 mod ffi;
 mod how;
+mod lookup;
 mod path;
 mod place;
 mod records;
@@ -23,6 +24,7 @@ pub use bits::ParseBitsError;
 pub use descriptors::Descriptors;
 pub use errno::Errno;
 pub use how::{Flags, OpenHow, Resolve};
+pub use lookup::{FoundName, NameRefusal};
 pub use path::AsPath;
 pub use place::{Handle, Place};
 pub use records::{Cause, Entries, Entry, Mount, Mounts, Node, Nodes, Record};
@@ -83,4 +85,20 @@ pub fn resolve_raw(
     how: impl AsRef<[u8]>,
 ) -> Result<Found, Refusal> {
     answer::of(ffi::resolve(image, handle.into(), path.path_bytes(), how.as_ref()))
+}
+
+/// Looks a name up in one directory, the table checked first. The check reads the whole
+/// table: for more than one name, make a [`Table`] and use [`Table::lookup`], which says
+/// what a lookup is.
+///
+/// ```
+/// use ventolaire::{bench_tree, lookup, Errno};
+///
+/// let found = lookup(bench_tree::IMAGE, 2, "tare")?;
+/// assert_eq!(found.to_string(), "entry 7, node 3; 2 names compared");
+/// assert_eq!(lookup(b"not a table", 2, "tare").unwrap_err().errno, Errno::EUCLEAN);
+/// # Ok::<(), ventolaire::NameRefusal>(())
+/// ```
+pub fn lookup(image: &[u8], node: u64, name: impl AsPath) -> Result<FoundName, NameRefusal> {
+    lookup::of(ffi::lookup(image, node, name.path_bytes()))
 }

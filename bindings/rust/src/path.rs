@@ -1,12 +1,11 @@
 use core::ffi::CStr;
 
-/// What a path can be given as: bytes, a `str`, a C string and, with the feature
-/// `std`, a `String`, `Vec`, `OsStr` or `Path` and their like.
+/// What a path, or a name to be looked up, can be given as: bytes, a `str`, a C string
+/// and, with the feature `std`, a `String`, `Vec`, `OsStr` or `Path` and their like.
 ///
-/// A path's bytes are taken as they are: nothing is decoded, normalised or cut
-/// off, and a path that holds a zero byte is refused with `EINVAL`. Of a C string
-/// they are those before its NUL. `OsStr` and `Path` are there on Unix, where they
-/// are bytes.
+/// Its bytes are taken as they are: nothing is decoded, normalised or cut off, and a
+/// path that holds a zero byte is refused with `EINVAL`. Of a C string they are those
+/// before its NUL. `OsStr` and `Path` are there on Unix, where they are bytes.
 ///
 /// ```
 /// use std::path::Path;

@@ -1,9 +1,10 @@
 use crate::records::{Entries, Mount, Mounts, Node, Nodes, Parts};
-use crate::{answer, check, ffi, AsPath, Broken, Descriptors, Found, Handle, OpenHow, Refusal};
+use crate::{answer, check, ffi, lookup, AsPath, Broken, Descriptors, Found, FoundName, Handle};
+use crate::{NameRefusal, OpenHow, Refusal};
 use core::fmt;
 
-/// A table that was checked: resolves any number of paths without checking it
-/// again, and reads its records.
+/// A table that was checked: resolves any number of paths and looks up any number of
+/// names without checking it again, and reads its records.
 ///
 /// It borrows the image, which therefore stays as it was checked. Bytes that
 /// somebody else can change meanwhile, such as a file that is mapped into memory,
@@ -121,6 +122,33 @@ impl<'a> Table<'a> {
 
     fn walk(&self, handle: Handle, path: &[u8], how: &[u8]) -> Result<Found, Refusal> {
         answer::of(ffi::resolve_accepted(self, handle, path, how))
+    }
+
+    /// Looks a name up in the directory of a number, by halving: of the names left the middle
+    /// one is compared (of two, the earlier), and if it is not equal, only the side that can hold
+    /// the name remains. So at most 12 names are compared in a directory of 3,000. Nothing is
+    /// followed, and no mount is entered.
+    ///
+    /// Refused in this order: `EBADF` if there is no node of that number; `ENOTDIR` if it is no
+    /// directory; `ENOENT` if it has no entry of that name. A name is any bytes: what can be no
+    /// entry's, such as an empty one, `..`, or one with a slash, is not there.
+    ///
+    /// ```
+    /// use ventolaire::{bench_tree, Errno, Table};
+    ///
+    /// let table = Table::new(bench_tree::IMAGE)?;
+    /// let cal = table.lookup(1, "cal")?.node;
+    /// let found = table.lookup(cal, "tare")?;
+    /// assert_eq!(found.to_string(), "entry 7, node 3; 2 names compared");
+    ///
+    /// let refusal = table.lookup(cal, "nope").unwrap_err();
+    /// assert_eq!(refusal.to_string(), "ENOENT (2); 3 names compared");
+    /// assert_eq!(table.lookup(found.node, "x").unwrap_err().errno, Errno::ENOTDIR);
+    /// assert_eq!(table.lookup(12, "x").unwrap_err().errno, Errno::EBADF);
+    /// # Ok::<(), Box<dyn std::error::Error>>(())
+    /// ```
+    pub fn lookup(&self, node: u64, name: impl AsPath) -> Result<FoundName, NameRefusal> {
+        lookup::of(ffi::lookup_accepted(self, node, name.path_bytes()))
     }
 
     /// Descriptors as a script starts with them: 0 is open on the root of mount 0, without the

@@ -3,6 +3,7 @@
 mod causes;
 mod descriptors;
 mod errors;
+mod lookups;
 mod paths;
 mod sets;
 mod tables;

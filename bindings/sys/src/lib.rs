@@ -43,6 +43,11 @@ pub type Open = unsafe extern "C" fn(
     usize,
 ) -> usize;
 
+/// The type of both functions that look a name up: image, node, name and output, each
+/// pointer with its length.
+pub type Lookup =
+    unsafe extern "C" fn(*const u8, usize, u64, *const u8, usize, *mut u64, usize) -> usize;
+
 /// The type of both functions that resolve: image, mount, node, mark, path,
 /// open_how and output, each pointer with its length.
 pub type Resolve = unsafe extern "C" fn(
@@ -96,6 +101,29 @@ extern "C" {
         path_len: usize,
         how: *const u8,
         how_len: usize,
+        out: *mut u64,
+        out_len: usize,
+    ) -> usize;
+
+    /// Looks a name up in one directory, the image checked first: error number (0: found), entry,
+    /// node and names compared.
+    pub fn ventolaire_lookup(
+        image: *const u8,
+        image_len: usize,
+        node: u64,
+        name: *const u8,
+        name_len: usize,
+        out: *mut u64,
+        out_len: usize,
+    ) -> usize;
+
+    /// The same without the check. Wants an accepted image, as `ventolaire_resolve_accepted` does.
+    pub fn ventolaire_lookup_accepted(
+        image: *const u8,
+        image_len: usize,
+        node: u64,
+        name: *const u8,
+        name_len: usize,
         out: *mut u64,
         out_len: usize,
     ) -> usize;

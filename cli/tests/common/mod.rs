@@ -82,6 +82,10 @@ impl Named {
     pub fn resolve(&self, arguments: &[&str]) -> (i32, String) {
         answer(["resolve", self.path()].iter().chain(arguments))
     }
+
+    pub fn lookup(&self, arguments: &[&str]) -> (i32, String) {
+        answer(["lookup", self.path()].iter().chain(arguments))
+    }
 }
 
 impl Drop for Named {

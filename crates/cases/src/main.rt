@@ -2,14 +2,16 @@
 //
 // The input is written by tests/cases/write: a u32 count, then a record of 84 bytes for each case, then the bytes that the records
 // lend. All numbers are little-endian. A record: u32 kind (1: table check, 2: call, 3: start of descriptors, 4: open, 5: duplicate,
-// 6: close, 7: set the mark); u32 offset and u32 length of the image, the path, the open_how and the case's name; u32 mark, of an open
-// whether it is asked; u64 mount, of a descriptor call the descriptor; u64 node; seven u32, the expected numbers: two for a check
-// and a start, six for a call, seven for a descriptor call, then zeros. A start's descriptors are those of the records after it.
+// 6: close, 7: set the mark, 8: lookup); u32 offset and u32 length of the image, the path (of a lookup the name that is looked up), the
+// open_how and the case's name; u32 mark, of an open whether it is asked; u64 mount, of a descriptor call the descriptor; u64 node, of a
+// lookup the directory; seven u32, the expected numbers: two for a check and a start, six for a call, seven for a descriptor call, four
+// for a lookup, then zeros. A start's descriptors are those of the records after it.
 use fields::u32_at;
 use fields::u64_at;
 use ventolaire::ventolaire_check;
 use ventolaire::ventolaire_close;
 use ventolaire::ventolaire_dup;
+use ventolaire::ventolaire_lookup;
 use ventolaire::ventolaire_open;
 use ventolaire::ventolaire_resolve;
 use ventolaire::ventolaire_set_mark;
@@ -81,6 +83,18 @@ fn answer(s: &[u8], at: usize, kind: usize) -> [u64; 7]
     out
 }
 
+// The numbers of a lookup, four.
+fn looked_up(s: &[u8], at: usize) -> [u64; 7]
+    requires { ⌜ at + 84 ≤ length (now s) ⌝ }
+{
+    let mut out = [0u64; 7];
+    let image = part(s, at + 4);
+    let name = part(s, at + 12);
+    let node = u64_at(s, at + 48);
+    ventolaire_lookup(image, node, name, &mut out);
+    out
+}
+
 // A record of any kind.
 fn answered(s: &[u8], at: usize, slots: &mut [u64; 64]) -> [u64; 7]
     requires { ⌜ at + 84 ≤ length (now s) ⌝ }
@@ -88,6 +102,9 @@ fn answered(s: &[u8], at: usize, slots: &mut [u64; 64]) -> [u64; 7]
     let kind = u32_at(s, at);
     if kind < 3 {
         return answer(s, at, kind);
+    }
+    if kind == 8 {
+        return looked_up(s, at);
     }
     reply(s, at, kind, slots)
 }

@@ -107,6 +107,10 @@ pub rule6-mounts : (t : Tree) → 0 < t .mounts → rule6 t ≡ none → MountsH
 unfolding rule6
 rule6-mounts t h e = record { some-mount = h; mount-holds = firstFailing-none (mountHolds t) (t .mounts) e }
 
+-- the table check's answer, where it was told
+pub accepted-told : (s : List ℕ) {v : Verdict} → v ≡ tableCheck s → v ≡ Accepted → tableCheck s ≡ Accepted
+accepted-told s is told = sym is ∙ told
+
 pub accepted-sound : (s : List ℕ) → tableCheck s ≡ Accepted → Sound (treeOf s)
 unfolding tableCheck rule5 rule7
 accepted-sound s e =

@@ -3,11 +3,13 @@ pub mod Cases
 pub mod ByteLaws
 pub mod BitLaws
 pub mod StringLaws
+pub mod BeforeLaws
 pub mod PartLaws
 pub mod ComponentLaws
 pub mod Acceptance
 pub mod UnderLaws
 pub mod EntryLaws
+pub mod HalvingLaws
 pub mod MountLaws
 pub mod Inside
 pub mod Refusals

@@ -50,32 +50,6 @@ differing [] (y ∷ t) h = refl
 differing (x ∷ s) [] h = refl
 differing (x ∷ s) (y ∷ t) h = rw (differing s t (λ e. h (ap suc e))) (and-false (eqb x y))
 
-same-next : (s t : List ℕ) (i : ℕ) → i < length s → i < length t
-    → sameBytes (drop i s) (drop i t) ≡ eqb (getD s i 0) (getD t i 0) && sameBytes (drop (i + 1) s) (drop (i + 1) t)
-unfolding sameBytes
-same-next s t i h k = rw (next s i h, next t i k)
-
--- A loop compares two strings of one length, and stands at i: they are the same if they are from i on.
-pub record SameFrom (s t : List ℕ) (i : ℕ) : Type 0 where
-  pub sized : length s ≡ length t
-  pub from-here : sameBytes s t ≡ sameBytes (drop i s) (drop i t)
-
-module _ {s t : List ℕ} {i : ℕ} (loop : SameFrom s t i) where
-  pub same-not : i < length s → (getD s i 0 ≡ getD t i 0 → ⊥) → false ≡ sameBytes s t
-  same-not h e = sym (loop .from-here ∙ same-next s t i h (omega (arith, loop .sized)) ∙ rw (ne-eqb (getD s i 0) (getD t i 0) e))
-
-  pub same-on : i < length s → getD s i 0 ≡ getD t i 0 → SameFrom s t (i + 1)
-  same-on h e = record {
-    sized = loop .sized;
-    from-here = loop .from-here ∙ same-next s t i h (omega (arith, loop .sized)) ∙ rw (eq-eqb (getD s i 0) (getD t i 0) e);
-  }
-
-  pub same-all : length s ≤ i → true ≡ sameBytes s t
-  unfolding sameBytes
-  same-all h =
-      let u : length t ≤ i = omega (arith, loop .sized) in
-      sym (loop .from-here ∙ rw (drop-of-length-le s h, drop-of-length-le t u))
-
 -- the test is equality
 pub same-equal : (s t : List ℕ) → sameBytes s t ≡ true → s ≡ t
 unfolding sameBytes

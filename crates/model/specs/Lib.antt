@@ -12,3 +12,5 @@ pub mod Walk
 pub mod Step
 pub mod Resolve
 pub mod Descriptors
+pub mod Halving
+pub mod Lookup

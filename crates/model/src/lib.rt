@@ -93,3 +93,22 @@ pub enum Reply {
     Done,
     Refused(Refusal),
 }
+
+// An entry found by its name: its number, the node that it names, and how many names were compared (RULES 18.7).
+pub struct Entry {
+    pub number: usize,
+    pub node: usize,
+    pub compared: usize,
+}
+
+// Why no entry is found, and how many names were compared (RULES 18.6).
+pub struct Miss {
+    pub errno: Errno,
+    pub compared: usize,
+}
+
+// What looking a name up in one directory comes to (RULES 18.5).
+pub enum Lookup {
+    Named(Entry),
+    Unnamed(Miss),
+}

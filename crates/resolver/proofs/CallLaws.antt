@@ -18,14 +18,14 @@ use Rattle.model.specs.declared.Verdict.the-variants.{Accepted, Broken}
 use Rattle.model.specs.Handles.{placeOf}
 use Rattle.model.specs.Tree.{treeOf}
 use Rattle.model.specs.Walk.{walkPath}
-use Rattle.laws.proofs.Acceptance.{accepted-sound, accepted-sized}
+use Rattle.laws.proofs.Acceptance.{accepted-sound}
 use Rattle.laws.specs.Inside.{Inside}
 use Rattle.theorems.specs.Bounded.{Bounded}
 use Rattle.theorems.proofs.Bounds.{either-root-inside, every-walk-bounded}
 use Rattle.laws.proofs.Refusals.{unrefused, path-short, handle-inside}
 use Rattle.parts.specs.declared.records.Counts.{Counts}
 use Rattle.image.specs.Counts.{countsOf, Counted}
-use Rattle.image.proofs.CountLaws.{counted}
+use Rattle.image.proofs.CountLaws.{counts}
 use Rattle.request.specs.Walking.{Reading, Walking}
 use Rattle.request.specs.declared.Request.{Request}
 use Rattle.model.specs.Resolve.{Call, callOf, refusedBefore, restrictions, requestOf, traceOf, resolve}
@@ -51,19 +51,9 @@ refused-some none f r e = let z : _≡_ {A = ℕ} 0 1 = cc in absurd (omega arit
 refused-some (some q) f r e = cc
 
 -- a table that was accepted, with its counts
-pub accepted-told : (s : List ℕ) {v : Verdict} → v ≡ tableCheck s → v ≡ Accepted → tableCheck s ≡ Accepted
-accepted-told s is told = sym is ∙ told
-
-module _ (s : List ℕ) (accepted : tableCheck s ≡ Accepted) where
-  pub header : 20 ≤ length s
-  header = omega (arith, accepted-sized s accepted .whole)
-
-  module _ {c : Counts} (counts-are : c ≡ countsOf s) where
-    pub counts : Counted s c
-    counts = counted (accepted-sized s accepted) counts-are
-
-    reading : Reading s c
-    reading = record { counted = counts; accepted = accepted }
+module _ (s : List ℕ) (accepted : tableCheck s ≡ Accepted) {c : Counts} (counts-are : c ≡ countsOf s) where
+  reading : Reading s c
+  reading = record { counted = counts s accepted counts-are; accepted = accepted }
 
 module _ (s : List ℕ) (h : Handle) (path how : List ℕ) where
   abbrev call : Call

@@ -1,11 +1,10 @@
 -- Laws of strings compared by blocks, each over the block's width. Assumes nothing.
 use Prim.Native.Nat.{ℕ, zero, suc, _+_, _-_, _*_, _^_, _≤_, _<_}
 use mathlib.Core.Bool.{Bool, true, false, not, _||_, or-false}
-use mathlib.Core.List.{List}
-use mathlib.Core.Logic.{⊎-elim}
-use mathlib.Core.Path.{_≡_, refl, sym, ap, ap₂, _∙_, subst}
+use mathlib.Core.List.{List, [], _∷_}
+use mathlib.Core.Logic.{_⊎_, inl, inr, ⊎-elim}
+use mathlib.Core.Path.{_≡_, refl, sym, ap, ap₂, _∙_}
 use native.Mathlib.Nat.{eq-or-lt-of-le, add-zero, add-suc, pow-suc}
-use native.Mathlib.Numerals.{add-one}
 use native.Mathlib.Omega.{arith}
 use borrow.Author.Tests.{eq-eqb, ne-eqb, le-ltb, lt-ltb, eqb-true, eqb-false, ltb-true, ltb-false, not-true, not-false}
 use lib.Dec.{eqb, ltb}
@@ -16,7 +15,7 @@ use mir.Val.{Fits}
 use Rattle.model.specs.Bytes.{field, sameBytes, before}
 use Rattle.laws.proofs.ByteLaws.{field-ext, field-same, field-split}
 use Rattle.laws.proofs.Cases.{below-or, cond-cases}
-use Rattle.laws.proofs.StringLaws.{same-equal, equal-same, before-next, before-short, before-ended}
+use Rattle.laws.proofs.StringLaws.{differing, same-equal, equal-same, before-next, before-short, before-ended}
 use Rattle.strings.specs.Blocks.{bigEndian, SameTo, Deciding, differ, firstDiffering}
 
 -- the same bytes in a block
@@ -26,6 +25,10 @@ Alike s t at width = (i : ℕ) → at ≤ i → i < at + width → getD s i 0 �
 -- what the code has of each slice of bytes
 abbrev pub Bytes : List ℕ → Type 0
 Bytes s = (i : ℕ) → Fits w8 (getD s i 0)
+
+-- and of the shorter of two lengths
+abbrev pub Shorter : List ℕ → List ℕ → ℕ → Type 0
+Shorter s t n = (n ≤ length s) × (n ≤ length t) × (n < length s → length t ≡ n)
 
 bytes-same : (width : ℕ) (s t : List ℕ) (at : ℕ) → Bytes s → Bytes t → field width s at ≡ field width t at → Alike s t at width
 bytes-same width s t at hs ht = field-same width s t at (λ i. hs i .fits) (λ i. ht i .fits)
@@ -90,59 +93,84 @@ module _ (s t : List ℕ) (hs : Bytes s) (ht : Bytes t) where
       })
       (below-or (bigEndian width s at) (bigEndian width t at))
 
--- bytes that are the same leave the order to those after them
-before-skip : (s t : List ℕ) (n : ℕ) → SameTo s t n → n ≤ length s → n ≤ length t → before s t ≡ before (drop n s) (drop n t)
-before-skip s t zero known ls lt = refl
-before-skip s t (suc n) known ls lt =
-    let e : getD s n 0 ≡ getD t n 0 = known n (omega arith) in
-    before-skip s t n (not-further s t (suc n) n known (omega arith)) (omega arith) (omega arith) ∙ before-next s t n ls lt
-    ∙ rw (le-ltb (getD s n 0) (getD t n 0) (omega arith), eq-eqb (getD s n 0) (getD t n 0) e, add-one)
+-- bytes that are the same leave it to those after them whether two strings are, and which comes first
+pub skip : (s t : List ℕ) (n : ℕ) → SameTo s t n → n ≤ length s → n ≤ length t
+    → (sameBytes (drop n s) (drop n t) ≡ sameBytes s t) × (before (drop n s) (drop n t) ≡ before s t)
+unfolding sameBytes before
+skip s t zero known ls lt = (refl, refl)
+skip [] t (suc n) known ls lt = absurd (omega arith)
+skip (x ∷ s) [] (suc n) known ls lt = absurd (omega arith)
+skip (x ∷ s) (y ∷ t) (suc n) known ls lt =
+    let e : x ≡ y = known 0 (omega arith) in
+    rw (eq-eqb x y e, le-ltb x y (omega arith)) (skip s t n (λ i h. known (suc i) (omega arith)) (omega arith) (omega arith))
 
 module _ (s t : List ℕ) (at : ℕ) (known : SameTo s t at) (ls : at < length s) (lt : at < length t) where
+  before-here : before s t ≡ before (drop at s) (drop at t)
+  before-here = sym (skip s t at known (omega arith) (omega arith) .1)
+
   before-lower : getD s at 0 < getD t at 0 → before s t ≡ true
-  before-lower h = before-skip s t at known (omega arith) (omega arith) ∙ before-next s t at ls lt ∙ rw (lt-ltb (getD s at 0) (getD t at 0) h)
+  before-lower h = before-here ∙ before-next s t at ls lt ∙ rw (lt-ltb (getD s at 0) (getD t at 0) h)
 
   before-higher : getD t at 0 < getD s at 0 → before s t ≡ false
   before-higher h =
-      before-skip s t at known (omega arith) (omega arith) ∙ before-next s t at ls lt
+      before-here ∙ before-next s t at ls lt
       ∙ rw (le-ltb (getD s at 0) (getD t at 0) (omega arith), ne-eqb (getD s at 0) (getD t at 0) (λ e. omega arith))
 
 module _ (width : ℕ) (s t : List ℕ) (hs : Bytes s) (ht : Bytes t) (at : ℕ) (known : SameTo s t at) where
   -- the first block that differs decides the order, as a number
-  pub before-big : at + width ≤ length s → at + width ≤ length t → (bigEndian width s at ≡ bigEndian width t at → ⊥)
-      → before s t ≡ ltb (bigEndian width s at) (bigEndian width t at)
-  before-big ls lt other = by (ltb (bigEndian width s at) (bigEndian width t at)) refl
+  pub before-big : {x y : ℕ} → x ≡ bigEndian width s at → y ≡ bigEndian width t at → at + width ≤ length s → at + width ≤ length t → (x ≡ y → ⊥)
+      → ltb x y ≡ before s t
+  before-big {x} {y} ex ey ls lt other = by (ltb x y) refl
     where
-      by : (b : Bool) → ltb (bigEndian width s at) (bigEndian width t at) ≡ b → before s t ≡ b
+      by : (b : Bool) → ltb x y ≡ b → b ≡ before s t
       by true e =
-          let r = big-lower s t hs ht width at (ltb-true _ _ e) in
-          before-lower s t (r .far) (λ i h. ⊎-elim (λ (q : i < at). known i q) (λ (q : at ≤ i). r .alike i q h) (below-or i at)) (omega (arith, r .below)) (omega (arith, r .below)) (r .less)
+          let h = ltb-true x y e in
+          let r = big-lower s t hs ht width at (omega arith) in
+          sym
+          (before-lower s t (r .far) (λ i k. ⊎-elim (λ (q : i < at). known i q) (λ (q : at ≤ i). r .alike i q k) (below-or i at)) (omega (arith, r .below))
+          (omega (arith, r .below)) (r .less))
       by false e =
-          let l = ltb-false (bigEndian width s at) (bigEndian width t at) e in
-          let h : bigEndian width t at < bigEndian width s at = ⊎-elim (λ (q : bigEndian width t at ≡ bigEndian width s at). absurd (other (sym q))) (λ q. q) (eq-or-lt-of-le l) in
-          let r = big-lower t s ht hs width at h in
-          before-higher s t (r .far)
-          (λ i k. ⊎-elim (λ (q : i < at). known i q) (λ (q : at ≤ i). sym (r .alike i q k)) (below-or i at)) (omega (arith, r .below)) (omega (arith, r .below)) (r .less)
+          let l = ltb-false x y e in
+          let h : y < x = ⊎-elim (λ (q : y ≡ x). absurd (other (sym q))) (λ q. q) (eq-or-lt-of-le l) in
+          let r = big-lower t s ht hs width at (omega arith) in
+          sym
+          (before-higher s t (r .far) (λ i k. ⊎-elim (λ (q : i < at). known i q) (λ (q : at ≤ i). sym (r .alike i q k)) (below-or i at))
+          (omega (arith, r .below)) (omega (arith, r .below)) (r .less))
 
--- where the shorter string begins the longer one their lengths decide
-pub before-begun : (s t : List ℕ) (n : ℕ) → SameTo s t n → n ≤ length s → n ≤ length t → (n < length s → length t ≡ n)
-    → before s t ≡ ltb (length s) (length t)
-before-begun s t n known ls lt end =
-    before-skip s t n known ls lt
-    ∙ ⊎-elim
-    (λ (q : n ≡ length s). before-ended s t n (omega arith) ∙ ap (λ (k : ℕ). ltb k (length t)) q)
-    (λ (q : n < length s). let e = end q in before-short s t n (omega arith) ∙ sym (le-ltb (length s) (length t) (omega arith)))
-    (eq-or-lt-of-le ls)
+-- two strings of one length are the same where all their bytes are
+pub same-all : (s t : List ℕ) (n : ℕ) → length s ≡ length t → SameTo s t n → length s ≤ n → sameBytes s t ≡ true
+same-all s t n e known l = ap (sameBytes s) (sym (ext-getD 0 s t e (not-further s t n (length s) known l))) ∙ equal-same s
 
-pub same-all : (s t : List ℕ) → length s ≡ length t → SameTo s t (length s) → sameBytes s t ≡ true
-same-all s t e known = ap (sameBytes s) (sym (ext-getD 0 s t e known)) ∙ equal-same s
-
-pub same-not : (width : ℕ) (s t : List ℕ) (at : ℕ) → (field width s at ≡ field width t at → ⊥) → sameBytes s t ≡ false
-same-not width s t at h = by (sameBytes s t) refl
+-- and two that a reading tells apart differ
+pub told-apart : (reading : List ℕ → ℕ) (s t : List ℕ) → (reading s ≡ reading t → ⊥) → sameBytes s t ≡ false
+told-apart reading s t h = by (sameBytes s t) refl
   where
     by : (b : Bool) → sameBytes s t ≡ b → b ≡ false
     by false e = refl
-    by true e = absurd (h (ap (λ (u : List ℕ). field width u at) (same-equal s t e)))
+    by true e = absurd (h (ap reading (same-equal s t e)))
+
+-- the shorter of two lengths is one of them
+pub one-ends : (s t : List ℕ) (n : ℕ) → Shorter s t n → (n ≡ length s) ⊎ (n ≡ length t)
+one-ends s t n short = ⊎-elim (λ (q : n ≡ length s). inl q) (λ (q : n < length s). inr (sym (short .2 q))) (eq-or-lt-of-le (short .0))
+
+-- where the shorter string begins the longer one their lengths decide
+module _ (s t : List ℕ) (n : ℕ) (known : SameTo s t n) (short : Shorter s t n) where
+  pub before-begun : ltb (length s) (length t) ≡ before s t
+  before-begun =
+      ⊎-elim
+      (λ (q : n ≡ length s). ap (λ (k : ℕ). ltb k (length t)) (sym q) ∙ sym (before-ended s t n (omega arith)))
+      (λ (q : n ≡ length t). le-ltb (length s) (length t) (omega (arith, short .0)) ∙ sym (before-short s t n (omega arith)))
+      (one-ends s t n short)
+      ∙ skip s t n known (short .0) (short .1) .1
+
+  pub same-begun : eqb (length s) (length t) ≡ sameBytes s t
+  same-begun = by (eqb (length s) (length t)) refl
+    where
+      by : (b : Bool) → eqb (length s) (length t) ≡ b → b ≡ sameBytes s t
+      by true e =
+          let q = eqb-true (length s) (length t) e in
+          sym (same-all s t n q known (⊎-elim (λ (h : n ≡ length s). omega arith) (λ (h : n ≡ length t). omega arith) (one-ends s t n short)))
+      by false e = sym (differing s t (eqb-false (length s) (length t) e))
 
 -- whether a block differs, by its two numbers
 module _ (width : ℕ) (s t : List ℕ) (at : ℕ) where
@@ -165,6 +193,9 @@ module _ (width : ℕ) (s t : List ℕ) (at : ℕ) where
 
     pub loads-differ : (x ≡ y → ⊥) → differ width s t at ≡ true
     loads-differ h = sym loads-tell ∙ ap not (ne-eqb x y h)
+
+    pub loads-apart : (x ≡ y → ⊥) → false ≡ sameBytes s t
+    loads-apart h = sym (told-apart (λ (u : List ℕ). field width u at) s t (λ q. h (ex ∙ q ∙ sym ey)))
 
 -- a block is the same where its lower and its upper part are
 parts-same : (low high : ℕ) (s t : List ℕ) (at : ℕ) → field low s at ≡ field low t at → field high s (at + low) ≡ field high t (at + low)
@@ -194,10 +225,14 @@ module _ (low high : ℕ) {s t : List ℕ} {short last at : ℕ} (block : Decidi
     differs = λ h f. block .differs (omega arith) (parts-same low high s t at (block-same low s t at e) f);
   }
 
--- a block of one byte, one of none, and one of which nothing is left
-byte-field : (s : List ℕ) (at : ℕ) → getD s at 0 ≡ field 1 s at
+-- a block of one byte, and one of none
+pub byte-field : (s : List ℕ) (at : ℕ) → getD s at 0 ≡ field 1 s at
 unfolding field
 byte-field s at = omega arith
+
+pub byte-big : (s : List ℕ) (at : ℕ) → getD s at 0 ≡ bigEndian 1 s at
+unfolding bigEndian
+byte-big s at = rw (add-zero at) (omega arith)
 
 empty-same : (s t : List ℕ) (at : ℕ) → differ 0 s t at ≡ false
 unfolding field
@@ -276,10 +311,10 @@ module _ {width : ℕ} {s t : List ℕ} {at : ℕ} {found : Bool} {far : ℕ} (b
 
 -- the deciding block decides
 module _ {width : ℕ} {s t : List ℕ} {last at : ℕ} (block : Deciding width s t last at) (hs : Bytes s) (ht : Bytes t) where
-  to-the-last : Alike s t at width → SameTo s t (last + width)
-  to-the-last h =
+  to-the-last : {n : ℕ} → last + width ≡ n → Alike s t at width → SameTo s t n
+  to-the-last e h =
       ⊎-elim
-      (λ (q : at ≡ last). subst (λ (k : ℕ). SameTo s t (k + width)) q (further s t at width (block .alike) h))
+      (λ (q : at ≡ last). not-further s t (at + width) _ (further s t at width (block .alike) h) (omega arith))
       (λ (q : at < last). absurd (block .differs q (field-ext width s t at h)))
       (eq-or-lt-of-le (block .within))
 
@@ -288,18 +323,26 @@ module _ {width : ℕ} {s t : List ℕ} {last at : ℕ} (block : Deciding width 
   deciding-same {x} {y} ex ey ls e = by (eqb x y) refl
     where
       by : (b : Bool) → eqb x y ≡ b → b ≡ sameBytes s t
-      by true f =
-          let known = to-the-last (bytes-same width s t at hs ht (sym ex ∙ eqb-true x y f ∙ ey)) in
-          sym (same-all s t e (subst (λ (k : ℕ). SameTo s t k) ls known))
-      by false f = sym (same-not width s t at (λ q. eqb-false x y f (ex ∙ q ∙ sym ey)))
+      by true f = sym (same-all s t (length s) e (to-the-last ls (bytes-same width s t at hs ht (sym ex ∙ eqb-true x y f ∙ ey))) (omega arith))
+      by false f = loads-apart width s t at ex ey (eqb-false x y f)
 
-  pub deciding-before : {x y : ℕ} → x ≡ bigEndian width s at → y ≡ bigEndian width t at → last + width ≤ length s → last + width ≤ length t
-      → (x ≡ y → ⊥) → ltb x y ≡ before s t
-  deciding-before ex ey ls lt other =
-      ap₂ ltb ex ey
-      ∙ sym (before-big width s t hs ht at (block .alike) (omega (arith, block .within)) (omega (arith, block .within)) (λ q. other (ex ∙ q ∙ sym ey)))
+  -- by its numbers, highest byte first
+  module _ {x y : ℕ} (ex : x ≡ bigEndian width s at) (ey : y ≡ bigEndian width t at) {n : ℕ} (ends : last + width ≡ n) (short : Shorter s t n) where
+    pub deciding-before : (x ≡ y → ⊥) → ltb x y ≡ before s t
+    deciding-before other =
+        before-big width s t hs ht at (block .alike) ex ey (omega (arith, block .within, short .0)) (omega (arith, block .within, short .1)) other
 
-  pub deciding-begun : {x y : ℕ} → x ≡ bigEndian width s at → y ≡ bigEndian width t at → last + width ≤ length s → last + width ≤ length t
-      → (last + width < length s → length t ≡ last + width) → x ≡ y → ltb (length s) (length t) ≡ before s t
-  deciding-begun ex ey ls lt end e =
-      sym (before-begun s t (last + width) (to-the-last (big-same s t hs ht width at (sym ex ∙ e ∙ ey))) ls lt end)
+    pub deciding-all : x ≡ y → SameTo s t n
+    deciding-all e = to-the-last ends (big-same s t hs ht width at (sym ex ∙ e ∙ ey))
+
+    pub deciding-begun : x ≡ y → ltb (length s) (length t) ≡ before s t
+    deciding-begun e = before-begun s t n (deciding-all e) short
+
+-- two strings by their first block
+pub start-same : (width : ℕ) (s t : List ℕ) → Bytes s → Bytes t → {x y : ℕ} → x ≡ field width s 0 → y ≡ field width t 0 → x ≡ y → SameTo s t width
+start-same width s t hs ht ex ey e i h = bytes-same width s t 0 hs ht (sym ex ∙ e ∙ ey) i (omega arith) (omega arith)
+
+-- and by their last one, where they are the same before it
+pub ends-same : (width : ℕ) (s t : List ℕ) → Bytes s → Bytes t → {last x y : ℕ} → x ≡ field width s last → y ≡ field width t last
+    → (n : ℕ) → SameTo s t n → last ≤ n → last + width ≡ length s → length s ≡ length t → eqb x y ≡ sameBytes s t
+ends-same width s t hs ht ex ey n known l = deciding-same (decides-last width s t n known l) hs ht ex ey

@@ -1,3 +1,6 @@
 mod BlockLaws
+mod ReversedLaws
+mod CompareLaws
+pub mod OrderLaws
 pub mod PartLaws
 pub mod DotLaws

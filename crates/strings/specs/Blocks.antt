@@ -1,16 +1,21 @@
 -- Strings compared by blocks of a few bytes.
-use Prim.Native.Nat.{ℕ, zero, suc, _+_, _*_, _≤_, _<_}
+use Prim.Native.Nat.{ℕ, zero, suc, _+_, _*_, _/_, _%_, _^_, _≤_, _<_}
 use mathlib.Core.Bool.{Bool, cond, not}
 use mathlib.Core.List.{List}
 use mathlib.Core.Path.{_≡_}
-use lib.Dec.{eqb}
-use lib.ListN.{getD}
+use lib.Dec.{eqb, ltb}
+use lib.ListN.{length, getD}
 use Rattle.model.specs.Bytes.{field}
 
 -- the number that the width bytes at a position stand for, highest first: in this order numbers and bytes compare alike
 unfoldable pub bigEndian : ℕ → List ℕ → ℕ → ℕ
 bigEndian zero s at = 0
 bigEndian (suc width) s at = 256 * bigEndian width s at + getD s (at + width) 0
+
+-- the number whose width bytes stand the other way round
+unfoldable pub reversed : ℕ → ℕ → ℕ
+reversed zero x = 0
+reversed (suc width) x = 256 ^ width * (x % 256) + reversed width (x / 256)
 
 -- two strings have the same bytes before a position
 abbrev pub SameTo : List ℕ → List ℕ → ℕ → Type 0
@@ -30,3 +35,11 @@ differ width s t at = not (eqb (field width s at) (field width t at))
 unfoldable pub firstDiffering : (width more : ℕ) → List ℕ → List ℕ → ℕ → ℕ
 firstDiffering width zero s t at = at
 firstDiffering width (suc more) s t at = cond (differ width s t at) at (firstDiffering width more s t (at + width))
+
+-- how long the shorter of two strings is
+abbrev pub shorterOf : List ℕ → List ℕ → ℕ
+shorterOf s t = cond (ltb (length s) (length t)) (length s) (length t)
+
+-- how many bytes two strings have in common at their start, by whole blocks of eight
+unfoldable pub alikeBlocks : List ℕ → List ℕ → ℕ
+alikeBlocks s t = firstDiffering 8 (shorterOf s t / 8) s t 0

@@ -5,7 +5,7 @@ use fields::u64_at;
 ghost use mathlib.Core.Path.{_≡_};
 ghost use Prim.Native.Nat.{ℕ, _+_, _^_, _≤_, _<_};
 ghost use lib.ListN.{length};
-ghost use Rattle.strings.specs.Blocks.{bigEndian, Deciding, differ, firstDiffering};
+ghost use Rattle.strings.specs.Blocks.{bigEndian, reversed, Deciding, differ, firstDiffering};
 
 fn big16_at(s: &[u8], at: usize) -> u64
     requires { ⌜ at + 2 ≤ length (now s) ⌝ }
@@ -19,6 +19,27 @@ pub fn big32_at(s: &[u8], at: usize) -> u64
     ensures { λ r. ⌜ (r ≡ bigEndian 4 (now (s .entry)) at) × (r < 2 ^ 32) ⌝ }
 {
     65536 * big16_at(s, at) + big16_at(s, at + 2)
+}
+
+// The compiler makes one instruction of it. Eight bytes highest first, read one by one, would be eight loads.
+fn reversed64(x: u64) -> u64
+    ensures { λ r. ⌜ r ≡ reversed 8 x ⌝ }
+{
+    x / 72057594037927936
+        + 256 * (x / 281474976710656 % 256)
+        + 65536 * (x / 1099511627776 % 256)
+        + 16777216 * (x / 4294967296 % 256)
+        + 4294967296 * (x / 16777216 % 256)
+        + 1099511627776 * (x / 65536 % 256)
+        + 281474976710656 * (x / 256 % 256)
+        + 72057594037927936 * (x % 256)
+}
+
+pub fn big64_at(s: &[u8], at: usize) -> u64
+    requires { ⌜ at + 8 ≤ length (now s) ⌝ }
+    ensures { λ r. ⌜ r ≡ bigEndian 8 (now (s .entry)) at ⌝ }
+{
+    reversed64(u64_at(s, at))
 }
 
 pub fn deciding_four(a: &[u8], b: &[u8], last: usize) -> usize

@@ -1,5 +1,6 @@
 -- The theorems: `Demand3`, over one trace `OnlyStops`, and `Witnessed` of the calls of `Witness`; `Bounds`; `Steps`, a walk as its steps; and of the
--- descriptor table `Descriptors` and, for demand 3 between two opens, `DescriptorPairs`, and `OpensWitnessed` of the opens of `OpenWitness`.
+-- descriptor table `Descriptors` and, for demand 3 between two opens, `DescriptorPairs`, and `OpensWitnessed` of the opens of `OpenWitness`;
+-- `Searched`, the search by halving.
 pub mod OnlyStops
 pub mod Demand3
 pub mod Bounds
@@ -10,3 +11,4 @@ pub mod Descriptors
 pub mod DescriptorPairs
 pub mod OpenWitness
 pub mod OpensWitnessed
+pub mod Searched

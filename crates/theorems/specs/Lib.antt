@@ -3,3 +3,4 @@ pub mod Adding
 pub mod Bounded
 pub mod Ordered
 pub mod Descriptors
+pub mod Searched

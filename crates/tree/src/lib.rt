@@ -1,20 +1,14 @@
-// Searches over the tree: a name in a directory, the mount on a place, and whether a directory is under a root.
+// Searches over the tree: the mount on a place, and whether a directory is under a root.
 use image::records::mount_root;
-use image::records::name_length;
-use image::records::node_count;
-use image::records::node_first;
 use image::records::node_kind;
 use image::records::node_parent;
 use image::records::packed_point;
-use image::texts::name;
 use parts::records::Counts;
 use parts::search::Search;
-use strings::same_sized;
 ghost use mathlib.Core.Bool.{true};
 ghost use mathlib.Core.Path.{_≡_};
 ghost use Prim.Native.Nat.{ℕ, _+_, _≤_, _<_};
-ghost use Rattle.model.specs.Bytes.{sameBytes};
-ghost use Rattle.model.specs.Tree.{treeOf, isDirectory, under, lookup, mountOn};
+ghost use Rattle.model.specs.Tree.{treeOf, isDirectory, under, mountOn};
 ghost use Rattle.model.specs.TableCheck.{tableCheck};
 ghost use Rattle.model.specs.Walk.{placeAt};
 ghost use Rattle.model.specs.declared.Verdict.the-variants.{Accepted};
@@ -46,33 +40,6 @@ pub fn is_under(image: &[u8], n: usize, root: usize) -> bool
         k = parent;
     }
     k == root
-}
-
-// Whether an entry has the name. Most names differ in length, which is read first.
-fn is_named(image: &[u8], c: Counts, e: usize, wanted: &[u8]) -> bool
-    requires { ⌜ Counted (now image) c × (e < treeOf (now image) .entries) × (treeOf (now image) .nameOffset e + treeOf (now image) .nameLength e ≤ treeOf (now image) .textLength) ⌝ }
-    ensures { λ r. ⌜ r ≡ sameBytes (treeOf (now (image .entry)) .name e) (now (wanted .entry)) ⌝ }
-{
-    if name_length(image, c, e) != wanted.len() {
-        return false;
-    }
-    same_sized(name(image, c, e), wanted)
-}
-
-// The entry of a name in a directory.
-pub fn find_entry(image: &[u8], c: Counts, n: usize, wanted: &[u8]) -> Search
-    requires { ⌜ Counted (now image) c × (tableCheck (now image) ≡ Accepted) × (isDirectory (treeOf (now image)) n ≡ true) ⌝ }
-    ensures { λ r. ⌜ r ≡ searchOf (lookup (treeOf (now (image .entry))) n (now (wanted .entry))) ⌝ }
-{
-    let mut e = node_first(image, n);
-    let end = e + node_count(image, n);
-    while e < end {
-        if is_named(image, c, e, wanted) {
-            return Search::At(e);
-        }
-        e += 1;
-    }
-    Search::Nowhere
 }
 
 // The mount whose point is a place: one above the place's own, since a mount hangs in a lower one, and none on that one's root.

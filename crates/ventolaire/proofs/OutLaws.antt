@@ -15,6 +15,10 @@ use Rattle.model.specs.TableCheck.{tableCheck}
 use Rattle.model.specs.Descriptors.{start, Served, replyNumbers}
 use Rattle.model.specs.declared.Reply.{Reply}
 use Rattle.model.specs.declared.Reply.the-variants.{Opened, Duplicated, Done, Refused as Reply-refused}
+use Rattle.model.specs.Lookup.{lookupNumbers}
+use Rattle.model.specs.declared.Lookup.{Lookup}
+use Rattle.model.specs.declared.Lookup.the-variants.{Named, Unnamed}
+use Rattle.model.specs.declared.Miss.{Miss}
 use Rattle.descriptors.specs.Slots.{slotsBy}
 use Rattle.descriptors.specs.Replies.{Serves}
 use Rattle.ventolaire.specs.Written.{errnoNumbers, errnosFor, Writes, WritesStart, WritesReply}
@@ -68,6 +72,19 @@ verdict-writes {v} {r} {before} {after} is h e =
 
 pub verdict-short : (v : Verdict) (before : List ℕ) → length before < 2 → Writes (verdictNumbers v) before before 0
 verdict-short v before = writes-none (verdictNumbers v) before 2 (verdict-two v)
+
+-- a lookup has four
+lookup-four : (l : Lookup) → length (lookupNumbers l) ≡ 4
+lookup-four (Named e) = refl
+lookup-four (Unnamed m) = refl
+
+pub lookup-writes : {l r : Lookup} {before after : List ℕ} → r ≡ l → 4 ≤ length before → after ≡ lookupNumbers r ++ drop 4 before
+    → Writes (lookupNumbers l) before after 4
+lookup-writes {l} {r} {before} {after} is h e =
+    writes-all (lookupNumbers l) 4 (lookup-four l) before after h (e ∙ ap (λ y. lookupNumbers y ++ drop 4 before) is)
+
+pub lookup-short : (l : Lookup) (before : List ℕ) → length before < 4 → Writes (lookupNumbers l) before before 0
+lookup-short l before = writes-none (lookupNumbers l) before 4 (lookup-four l)
 
 -- a descriptor call's reply has seven
 reply-seven : (r : Reply) → length (replyNumbers r) ≡ 7
@@ -136,6 +153,13 @@ module _ (out : List ℕ) {after : List ℕ} where
       → after ≡ n ∷ r .detail ∷ 0 ∷ 0 ∷ r .progress .components ∷ r .progress .links ∷ drop 6 out → after ≡ answerNumbers a ++ drop 6 out
   refusal-told {r = r} is number e =
       answer-told is (e ∙ ap (λ x. x ∷ r .detail ∷ 0 ∷ 0 ∷ r .progress .components ∷ r .progress .links ∷ drop 6 out) number)
+
+  pub lookup-told : {l told : Lookup} → l ≡ told → after ≡ lookupNumbers told ++ drop 4 out → after ≡ lookupNumbers l ++ drop 4 out
+  lookup-told is e = e ∙ ap (λ x. lookupNumbers x ++ drop 4 out) (sym is)
+
+  pub miss-told : {l : Lookup} {m : Miss} {n : ℕ} → l ≡ Unnamed m → n ≡ errnoNumber (m .errno) → after ≡ n ∷ 0 ∷ 0 ∷ m .compared ∷ drop 4 out
+      → after ≡ lookupNumbers l ++ drop 4 out
+  miss-told {m = m} is number e = lookup-told is (e ∙ ap (λ x. x ∷ 0 ∷ 0 ∷ m .compared ∷ drop 4 out) number)
 
   pub reply-told : {r told : Reply} → r ≡ told → after ≡ replyNumbers told ++ drop 7 out → after ≡ replyNumbers r ++ drop 7 out
   reply-told is e = e ∙ ap (λ x. replyNumbers x ++ drop 7 out) (sym is)

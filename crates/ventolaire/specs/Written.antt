@@ -8,6 +8,7 @@ use lib.ListN.{length, take, drop}
 use Rattle.model.specs.Answers.{errnoNumber, answerNumbers, verdictNumbers}
 use Rattle.model.specs.TableCheck.{tableCheck}
 use Rattle.model.specs.Resolve.{Call, callOf, resolve}
+use Rattle.model.specs.Lookup.{lookupName, lookupNumbers}
 use Rattle.model.specs.Descriptors.{start, Served, replyNumbers}
 use Rattle.resolver.specs.Answering.{Kept}
 use Rattle.descriptors.specs.Slots.{slotsBy}
@@ -37,6 +38,11 @@ pub record Writes (numbers before after : List ℕ) (r : ℕ) : Type 0 where
 -- the numbers of the call's answer, and what is lent stays
 abbrev pub WritesAnswer : List ℕ → Call → List ℕ → Call → List ℕ → List ℕ → ℕ → Type 0
 WritesAnswer image call image′ call′ before after r = Writes (answerNumbers (resolve image call)) before after r × Kept image call image′ call′
+
+-- the numbers of a lookup's answer, and what is lent stays
+abbrev pub WritesLookup : List ℕ → ℕ → List ℕ → List ℕ → List ℕ → List ℕ → List ℕ → ℕ → Type 0
+WritesLookup image node name image′ name′ before after r =
+    Writes (lookupNumbers (lookupName image node name)) before after r × (image′ ≡ image) × (name′ ≡ name)
 
 -- the verdict's numbers and the slots of a start; where the array is too short they stay
 pub record WritesStart (image slots slots′ before after : List ℕ) (r : ℕ) : Type 0 where

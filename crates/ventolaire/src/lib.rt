@@ -9,9 +9,12 @@ use descriptors::set_mark;
 use descriptors::slots::DESCRIPTORS;
 use descriptors::start;
 use descriptors::start_accepted;
+use lookup::lookup;
+use lookup::lookup_accepted;
 use model::Answer;
 use model::Errno;
 use model::Handle;
+use model::Lookup;
 use model::NO_DETAIL;
 use model::Reply;
 use model::Verdict;
@@ -24,10 +27,11 @@ ghost use Prim.Native.Nat.{ℕ, _≤_};
 ghost use lib.ListN.{length, drop};
 ghost use Rattle.model.specs.Answers.{errnoNumber, answerNumbers, verdictNumbers};
 ghost use Rattle.model.specs.TableCheck.{tableCheck};
+ghost use Rattle.model.specs.Lookup.{lookupNumbers};
 ghost use Rattle.model.specs.Descriptors.{openPath, duplicate, close, setMark, start, serve, replyNumbers};
 ghost use Rattle.model.specs.declared.Verdict.the-variants.{Accepted};
 ghost use Rattle.descriptors.specs.Slots.{slotsBy};
-ghost use Rattle.ventolaire.specs.Written.{callBy, errnosFor, Writes, WritesAnswer, WritesStart, WritesReply, Stay};
+ghost use Rattle.ventolaire.specs.Written.{callBy, errnosFor, Writes, WritesAnswer, WritesLookup, WritesStart, WritesReply, Stay};
 
 fn errno_number(e: Errno) -> u64
     ensures { λ r. ⌜ r ≡ errnoNumber e ⌝ }
@@ -53,6 +57,16 @@ fn put2(out: &mut [u64], a: u64, b: u64)
 {
     out[0] = a;
     out[1] = b;
+}
+
+fn put4(out: &mut [u64], a: u64, b: u64, c: u64, d: u64)
+    requires { ⌜ 4 ≤ length (now out) ⌝ }
+    ensures { λ r. ⌜ now (out .exit) ≡ a ∷ b ∷ c ∷ d ∷ drop 4 (now (out .entry)) ⌝ }
+{
+    out[0] = a;
+    out[1] = b;
+    out[2] = c;
+    out[3] = d;
 }
 
 fn put6(out: &mut [u64], a: u64, b: u64, c: u64, d: u64, e: u64, f: u64)
@@ -87,6 +101,19 @@ fn put_verdict(out: &mut [u64], v: Verdict)
     match v {
         Verdict::Accepted => put2(out, 0, 0),
         Verdict::Broken { rule, record } => put2(out, rule as u64, record as u64),
+    }
+}
+
+fn put_lookup(out: &mut [u64], l: Lookup)
+    requires { ⌜ 4 ≤ length (now out) ⌝ }
+    ensures { λ r. ⌜ now (out .exit) ≡ lookupNumbers l ++ drop 4 (now (out .entry)) ⌝ }
+{
+    match l {
+        Lookup::Named(e) => put4(out, 0, e.number as u64, e.node as u64, e.compared as u64),
+        Lookup::Unnamed(m) => {
+            let errno = m.errno;
+            put4(out, errno_number(errno), 0, 0, m.compared as u64);
+        }
     }
 }
 
@@ -228,6 +255,36 @@ pub extern "C" fn ventolaire_resolve_accepted<'a>(
     };
     put_answer(out, resolve_accepted(image, h, path, how));
     6
+}
+
+// A name looked up in one directory: error number (0: found), entry, node, names compared.
+#[no_mangle]
+pub extern "C" fn ventolaire_lookup(image: &[u8], node: u64, name: &[u8], out: &mut [u64]) -> usize
+    ensures { λ r. ⌜ WritesLookup (now (image .entry)) node (now (name .entry)) (now (image .exit)) (now (name .exit)) (now (out .entry)) (now (out .exit)) r ⌝ }
+{
+    if out.len() < 4 {
+        return 0;
+    }
+    put_lookup(out, lookup(image, node as usize, name));
+    4
+}
+
+// The same in an image that `ventolaire_check` accepted and that has not changed since, without the table check.
+#[no_mangle]
+pub extern "C" fn ventolaire_lookup_accepted(
+    image: &[u8],
+    node: u64,
+    name: &[u8],
+    out: &mut [u64],
+) -> usize
+    requires { ⌜ tableCheck (now image) ≡ Accepted ⌝ }
+    ensures { λ r. ⌜ WritesLookup (now (image .entry)) node (now (name .entry)) (now (image .exit)) (now (name .exit)) (now (out .entry)) (now (out .exit)) r ⌝ }
+{
+    if out.len() < 4 {
+        return 0;
+    }
+    put_lookup(out, lookup_accepted(image, node as usize, name));
+    4
 }
 
 // The numbers of the errnos, in the order in which they are declared. An array with room for the first nine alone gets these.

@@ -1,5 +1,7 @@
 //! A case, and its comparison.
 
+use crate::halving::Looked;
+use crate::lookup::Lookup;
 use crate::resolver::{
     self, resolve_field, resolve_with_events, second_answer, Answer, Event, Met, Place,
     Restrictions, BENEATH, IN_ROOT, NO_MAGICLINKS, NO_SYMLINKS, NO_XDEV,
@@ -81,6 +83,7 @@ pub enum Case {
     Table(Vec<u8>),
     Call(Call),
     Sequence(Sequence),
+    Lookup(Lookup),
 }
 
 /// The case as the arguments of `compare replay`.
@@ -97,6 +100,7 @@ impl fmt::Display for Case {
             Case::Sequence(Sequence { image, steps }) => {
                 f.write_str(&sequence_arguments(image, steps))
             }
+            Case::Lookup(lookup) => lookup.fmt(f),
         }
     }
 }
@@ -121,6 +125,11 @@ pub enum Alike {
     Sequence {
         accepted: bool,
         told: Vec<Told>,
+    },
+    Lookup {
+        /// The directory's.
+        count: u64,
+        answer: Looked,
     },
 }
 
@@ -150,6 +159,7 @@ impl Case {
             Case::Table(image) => compare_table(subject, image),
             Case::Call(call) => compare_call(subject, call),
             Case::Sequence(sequence) => sequence.compare(subject),
+            Case::Lookup(lookup) => lookup.compare(subject),
         }
     }
 
@@ -158,6 +168,7 @@ impl Case {
             Case::Table(image) => image,
             Case::Call(call) => &call.image,
             Case::Sequence(sequence) => &sequence.image,
+            Case::Lookup(lookup) => &lookup.image,
         }
     }
 
@@ -166,6 +177,7 @@ impl Case {
             Case::Table(_) => Case::Table(image),
             Case::Call(call) => Case::Call(Call { image, ..call }),
             Case::Sequence(sequence) => Case::Sequence(Sequence { image, ..sequence }),
+            Case::Lookup(lookup) => Case::Lookup(Lookup { image, ..lookup }),
         }
     }
 }

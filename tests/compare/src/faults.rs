@@ -131,4 +131,39 @@ faults! {
     FullCounts: "EMFILE carries the counts of the walk", "fill-64";
     RefusalCloses: "a refused open closes its number", "leaves-5";
     RefusedFirst: "an open over a refused table is EUCLEAN, not EBADF", "start-refused-1";
+    // Lookups: the halving.
+    LaterMiddle: "of two middles the later is compared", "lookup-two-earlier";
+    EqualUncounted: "the equal name is not counted", "lookup-middle";
+    OtherSide: "the side that cannot hold the name is kept", "lookup-last";
+    GoesOn: "the halving goes on at an equal name", "lookup-middle";
+    MiddleKept: "a name compared is kept with the names after it", "lookup-last";
+    LastUncompared: "a name left alone is not compared", "lookup-last";
+    OneByOne: "names are compared one by one", "lookup-last";
+    AbsentUncounted: "ENOENT tells no count", "lookup-absent-between";
+    AcceptedUncounted: "the lookup that wants an accepted image tells no count",
+        "lookup-middle";
+    // Lookups: the order of names.
+    SignedLookup: "a lookup orders names as signed bytes", "lookup-byte-255";
+    ShorterAfter: "a name stands before its own beginning", "lookup-shorter";
+    BeginningFound: "a lookup finds a name by its beginning", "lookup-beginning";
+    LongerFound: "a lookup finds the beginning of a longer name", "lookup-longer";
+    FarBytesUnread: "a lookup reads the first 200 bytes of names alone", "lookup-alike-second";
+    // Lookups: what is asked for.
+    ZeroByteEnds: "a zero byte ends the name that is looked up", "lookup-zero-byte";
+    NameCut8: "the length of a name that is looked up is cut to 8 bits", "lookup-260-bytes";
+    NameCut255: "a name that is looked up is cut to 255 bytes", "lookup-alike-256-bytes";
+    LongNameRefused: "a lookup of over 255 bytes is ENAMETOOLONG", "lookup-260-bytes";
+    LongNameUncounted: "a lookup of over 255 bytes compares none", "lookup-260-bytes";
+    EmptyNameUncounted: "a lookup of an empty name compares none", "lookup-empty";
+    DotFound: "a lookup finds the directory itself as \".\"", "lookup-dot";
+    NodeCut16: "a directory's number is cut to 16 bits", "lookup-node-65537";
+    NodeCut32: "a directory's number is cut to 32 bits", "lookup-node-2-to-32-and-1";
+    NodeErrorsSwapped: "ENOTDIR and EBADF of a lookup are swapped", "lookup-file";
+    NodeBeforeTable: "a lookup's EBADF comes before EUCLEAN", "lookup-order-table-node";
+    TouchedName: "the last byte of a name that is looked up is changed", "lookup-middle";
+    // Lookups: what is told.
+    NoDirectoryCounted: "ENOTDIR tells a count", "lookup-file";
+    NodeForEntry: "the node is told in place of the entry", "lookup-two-later";
+    EntryInDirectory: "the entry is told by its place in the directory", "lookup-two-later";
+    LookupEnters: "a lookup enters the mount on the node", "lookup-two-later";
 }

@@ -1,5 +1,5 @@
-//! Compares Ventolaire's resolver and descriptors with independent second ones over many
-//! seeded inputs, and both with the list of worked cases. `compare --help` has
+//! Compares Ventolaire's resolver, descriptors and lookups with independent second ones over
+//! many seeded inputs, and both with the list of worked cases. `compare --help` has
 //! the commands.
 //!
 //! Built with the feature `subject` it compares with the library:
@@ -19,6 +19,8 @@ mod descriptors;
 mod faults;
 mod faulty;
 mod generate;
+mod halving;
+mod lookup;
 mod plant;
 mod report;
 mod resolver;
@@ -32,6 +34,7 @@ mod worked;
 use arguments::Arguments;
 use case::{Call, Case};
 use generate::{Cases, Wanted};
+use lookup::Lookup;
 use report::{describe, print_difference, report};
 use sequence::Sequence;
 use stats::Stats;
@@ -41,32 +44,35 @@ use std::time::{Duration, Instant};
 use subject::{Subject, Way};
 
 const HELP: &str = "\
-Compares the resolver and the descriptors with independent second ones.
+Compares the resolver, the descriptors and the lookups with independent second ones.
 
-compare [--seed N] [--calls N] [--tables N] [--sequences N] [--seconds N] [--stats] [--announce]
+compare [--seed N] [--calls N] [--tables N] [--sequences N] [--lookups N] [--seconds N] [--stats]
+        [--announce]
 compare replay --image HEX [[--mount N] [--node N] [--mark 0|1] --path HEX --how HEX
                [--added N] [--added-mark 0|1]]
 compare replay --image HEX --sequence CALL[,CALL]..
-compare show [--seed N] --call N | --table N | --sequence N
+compare replay --image HEX [--node N] --name HEX
+compare show [--seed N] --call N | --table N | --sequence N | --lookup N
 compare cases FILE
 compare faults [--seed N] [--cases FILE]
 compare --help
 
 Without a command, inputs are made from the seed, 1 if not given: as many as said, or as many as
-take so many seconds. A sequence is up to 200 calls on descriptors. A difference is shrunk and
-printed as the arguments of `compare replay`, which shows both answers to it; a CALL on descriptors
-is open:NUMBER:MARK:PATH:HOW[:ADDED:ADDED_MARK] with the bytes in hexadecimal, dup:NUMBER,
-close:NUMBER or set_mark:NUMBER. `compare show` prints one input of a run. `compare cases` asks both
-sides for the answers to the list of worked cases, crates/cases/stdin. `compare faults` plants
-faults in a resolver and sees that each is found by the comparison, and with a list of cases also by
-the case that it is known to be found by. In a build without the library, `--fault NAME` plants one
-of them.
+take so many seconds. A sequence is up to 200 calls on descriptors, a lookup is that of a name in
+one directory. A difference is shrunk and printed as the arguments of `compare replay`, which shows
+both answers to it; a CALL on descriptors is open:NUMBER:MARK:PATH:HOW[:ADDED:ADDED_MARK] with the
+bytes in hexadecimal, dup:NUMBER, close:NUMBER or set_mark:NUMBER. `compare show` prints one input
+of a run. `compare cases` asks both sides for the answers to the list of worked cases,
+crates/cases/stdin. `compare faults` plants faults in a resolver and sees that each is found by the
+comparison, and with a list of cases also by the case that it is known to be found by. In a build
+without the library, `--fault NAME` plants one of them.
 
 The last line counts what passed and what failed. The status is 0, 1 if anything failed, 2 if the
 arguments or a file are wrong.
 ";
 
-const USUAL: Wanted = Wanted { tables: 100_000, calls: 300_000, sequences: 30_000 };
+const USUAL: Wanted =
+    Wanted { tables: 100_000, calls: 300_000, sequences: 30_000, lookups: 500_000 };
 /// After so many differences a run ends.
 const MOST_DIFFERENCES: u64 = 3;
 /// A case that takes longer has not ended.
@@ -148,7 +154,7 @@ struct Run {
 
 impl Run {
     fn of(arguments: &Arguments) -> Result<Run, String> {
-        let counts = ["--tables", "--calls", "--sequences"];
+        let counts = ["--tables", "--calls", "--sequences", "--lookups"];
         let options = [&counts[..], &["--seed", "--seconds", "--fault"]].concat();
         arguments.known(&["--stats", "--announce"], &options)?;
         let seconds = arguments.number("--seconds")?;
@@ -162,6 +168,7 @@ impl Run {
             tables: count("--tables", USUAL.tables)?,
             calls: count("--calls", USUAL.calls)?,
             sequences: count("--sequences", USUAL.sequences)?,
+            lookups: count("--lookups", USUAL.lookups)?,
         };
         Ok(Run {
             seed: arguments.number("--seed")?.unwrap_or(1),
@@ -212,7 +219,8 @@ fn run(arguments: &Arguments) -> Result<bool, String> {
     println!(
         "seed {}: {} tables checked, {} of them accepted; {} calls, {} of them found, \
          each with a second call, {} of these stopped by an added restriction; {} sequences \
-         of {} calls on descriptors, {} of them with all 64 open; {:.1} s",
+         of {} calls on descriptors, {} of them with all 64 open; {} lookups, {} of them \
+         found; {:.1} s",
         run.seed,
         stats.tables,
         stats.accepted,
@@ -222,6 +230,8 @@ fn run(arguments: &Arguments) -> Result<bool, String> {
         stats.descriptors.sequences,
         stats.descriptors.steps,
         stats.descriptors.filled,
+        stats.lookups.lookups,
+        stats.lookups.found,
         since.elapsed().as_secs_f64()
     );
     println!("{} passed, {failed} failed", stats.cases());
@@ -231,10 +241,19 @@ fn run(arguments: &Arguments) -> Result<bool, String> {
 /// The case that the arguments of `compare replay` tell.
 fn given(arguments: &Arguments) -> Result<Case, String> {
     let numbers = ["--mount", "--node", "--mark", "--added", "--added-mark"];
-    let bytes = ["--image", "--path", "--how"];
+    let bytes = ["--image", "--path", "--how", "--name"];
     arguments.known(&[], &[&numbers[..], &bytes, &["--sequence", "--fault"]].concat())?;
     let image = arguments.bytes("--image")?;
     let is_call = arguments.flag("--path") || arguments.flag("--how");
+    let number = |name| Ok::<u64, String>(arguments.number(name)?.unwrap_or(0));
+    if arguments.flag("--name") {
+        let others = ["--mount", "--mark", "--added", "--added-mark", "--sequence"];
+        if is_call || others.iter().any(|name| arguments.flag(name)) {
+            return Err("--name stands with --image and --node alone".into());
+        }
+        let (node, name) = (number("--node")?, arguments.bytes("--name")?);
+        return Ok(Case::Lookup(Lookup { image, node, name }));
+    }
     if let Some(steps) = arguments.text("--sequence") {
         if is_call || numbers.iter().any(|name| arguments.flag(name)) {
             return Err("--sequence stands with --image alone".into());
@@ -244,7 +263,6 @@ fn given(arguments: &Arguments) -> Result<Case, String> {
     if !is_call {
         return Ok(Case::Table(image));
     }
-    let number = |name| Ok::<u64, String>(arguments.number(name)?.unwrap_or(0));
     Ok(Case::Call(Call {
         image,
         mount: number("--mount")?,
@@ -279,6 +297,12 @@ fn replay(arguments: &Arguments) -> Result<bool, String> {
                 println!("call {number}, {step}:\n  expected {expected:?}\n  got      {got:?}");
             }
         }
+        Case::Lookup(lookup) => {
+            println!("lookup:\n  expected {:?}", lookup.expected());
+            for (got, _) in lookup.got(subject.as_mut()) {
+                println!("  got      {got:?}");
+            }
+        }
     }
     describe(&case);
     let compared = case.compare(subject.as_mut());
@@ -303,10 +327,10 @@ fn answers(title: &str, call: &Call, subject: &mut dyn Subject) {
 
 /// The bytes of one case of a run, without comparing it.
 fn show(arguments: &Arguments) -> Result<bool, String> {
-    arguments.known(&[], &["--seed", "--call", "--table", "--sequence"])?;
+    arguments.known(&[], &["--seed", "--call", "--table", "--sequence", "--lookup"])?;
     let seed = arguments.number("--seed")?.unwrap_or(1);
     let mut numbers = Vec::new();
-    for stream in ["call", "table", "sequence"] {
+    for stream in ["call", "table", "sequence", "lookup"] {
         let number = arguments.number(&format!("--{stream}"))?;
         numbers.extend(number.map(|number| (stream, number)));
     }
@@ -314,7 +338,7 @@ fn show(arguments: &Arguments) -> Result<bool, String> {
         [(stream, number)] => generate::one(seed, stream, number),
         _ => None,
     };
-    let case = case.ok_or("show wants --call N, --table N or --sequence N")?;
+    let case = case.ok_or("show wants --call N, --table N, --sequence N or --lookup N")?;
     describe(&case);
     println!("replay {case}");
     Ok(true)

@@ -28,6 +28,13 @@ fn found_by_cases(fault: Fault, cases: &[Worked]) -> Option<String> {
     Some(format!("by {}, among them {named}", found.len()))
 }
 
+/// A tenth of what is wanted.
+fn fewer(Wanted { tables, calls, sequences, lookups }: Wanted) -> Wanted {
+    let [tables, calls, sequences, lookups] =
+        [tables, calls, sequences, lookups].map(|count| count / 10);
+    Wanted { tables, calls, sequences, lookups }
+}
+
 /// Plants each fault in turn and sees that it is found.
 pub fn run(arguments: &Arguments) -> Result<bool, String> {
     arguments.known(&[], &["--seed", "--cases"])?;
@@ -49,9 +56,7 @@ pub fn run(arguments: &Arguments) -> Result<bool, String> {
     // And nothing is found where there is no fault.
     let mut subject = Planted(None);
     let alike = |numbered: Numbered| numbered.case.compare(&mut subject).is_ok();
-    let Wanted { tables, calls, sequences } = USUAL;
-    let fewer = Wanted { tables: tables / 10, calls: calls / 10, sequences: sequences / 10 };
-    let none = Cases::new(seed, fewer).all(alike);
+    let none = Cases::new(seed, fewer(USUAL)).all(alike);
     println!("with no fault");
     println!("  compared: {}", count(none.then(|| "no difference".into())));
     println!("{passed} passed, {failed} failed");

@@ -49,6 +49,9 @@ pub fn describe(case: &Case) {
                 println!("  call {number}: {}", call_in_words(step));
             }
         }
+        Case::Lookup(lookup) => {
+            println!("  in node {}, name \"{}\"", lookup.node, lookup.name.escape_ascii());
+        }
     }
 }
 

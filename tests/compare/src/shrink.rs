@@ -1,12 +1,13 @@
 //! Makes a case that shows a difference smaller, as long as it still does.
 
 use crate::case::{Call, Case};
+use crate::lookup::Lookup;
 use crate::resolver::accept;
 use crate::subject::Subject;
 use crate::tree;
 use data::fields::{get, set};
 use data::how;
-use data::image::{Entry, Node, Tree};
+use data::image::{Entry, Node, Text, Tree};
 use data::sequence::{Open, Step};
 use std::time::{Duration, Instant};
 
@@ -45,11 +46,20 @@ impl Shrinker<'_> {
         differs
     }
 
-    /// Changes the call of the best case, if it is one.
-    fn attempt_call(&mut self, change: impl FnOnce(&mut Call)) -> bool {
+    /// Number 0 in a field of the best case, if it has it.
+    fn attempt_zero(&mut self, field: Field) -> bool {
         let mut candidate = self.best.clone();
-        if let Case::Call(call) = &mut candidate {
-            change(call);
+        if let Some(number) = field(&mut candidate) {
+            *number = 0;
+        }
+        self.attempt(candidate)
+    }
+
+    /// Another name for the best case, if it is a lookup.
+    fn attempt_name(&mut self, changed: Vec<u8>) -> bool {
+        let mut candidate = self.best.clone();
+        if let Case::Lookup(lookup) = &mut candidate {
+            lookup.name = changed;
         }
         self.attempt(candidate)
     }
@@ -77,8 +87,9 @@ impl Shrinker<'_> {
         let before = self.best.clone();
         self.drop_steps();
         self.shrink_steps();
-        self.attempt_call(|call| call.mount = 0);
-        self.attempt_call(|call| call.node = 0);
+        self.attempt_zero(mount_of);
+        self.attempt_zero(node_of);
+        self.shrink_name();
         let with_a_path = parts(&mut self.best).len();
         for index in 0..with_a_path {
             self.shrink_parts(index);
@@ -173,16 +184,32 @@ impl Shrinker<'_> {
         }
     }
 
+    /// Takes runs of bytes out of the name that is looked up, long ones first.
+    fn shrink_name(&mut self) {
+        let mut run = usize::MAX;
+        while let Case::Lookup(Lookup { name, .. }) = &self.best {
+            let name = name.clone();
+            run = run.min(name.len());
+            let without = |at: usize| [&name[..at], &name[(at + run).min(name.len())..]].concat();
+            let mut starts = (0..name.len()).step_by(run.max(1));
+            let helped = starts.any(|at| self.attempt_name(without(at)));
+            if !helped && run <= 1 {
+                break;
+            }
+            if !helped {
+                run /= 2;
+            }
+        }
+    }
+
     /// The best case with another tree for its table.
-    fn attempt_tree(&mut self, tree: &Tree, change: impl FnOnce(&mut Call)) -> bool {
+    fn attempt_tree(&mut self, tree: &Tree, change: impl FnOnce(&mut Case)) -> bool {
         let image = tree.shared_image();
         if accept(&image).is_err() {
             return false;
         }
         let mut candidate = self.best.with_image(image);
-        if let Case::Call(call) = &mut candidate {
-            change(call);
-        }
+        change(&mut candidate);
         self.attempt(candidate)
     }
 
@@ -192,20 +219,22 @@ impl Shrinker<'_> {
         };
         let mut tree = tree::of(&table);
         // From here on the image is the tree's.
+        let in_place = tree::in_place(&table);
         if self.best.image() != tree.shared_image() && !self.attempt_tree(&tree, |_| {}) {
-            return;
+            tree = in_place;
         }
         self.shrink_nodes(&mut tree);
+        self.shrink_beginnings(&mut tree);
         for number in (0..tree.mounts.len()).rev() {
             let candidate = tree::without_mount(&tree, number);
-            self.attempt_without(&mut tree, candidate, number as u64, |call| &mut call.mount);
+            self.attempt_without(&mut tree, candidate, number as u64, mount_of);
         }
         for number in (0..tree.nodes.len()).rev() {
             if self.spent() {
                 return;
             }
             let candidate = tree::without_node(&tree, number);
-            self.attempt_without(&mut tree, candidate, number as u64, |call| &mut call.node);
+            self.attempt_without(&mut tree, candidate, number as u64, node_of);
         }
     }
 
@@ -234,22 +263,24 @@ impl Shrinker<'_> {
         }
     }
 
-    /// The tree without a record that the handle does not name; its number there
-    /// is lowered with the others.
+    /// The tree without a record whose number the case does not give in this field; the
+    /// number there is lowered with the others.
     fn attempt_without(
         &mut self,
         tree: &mut Tree,
         candidate: Option<Tree>,
         gone: u64,
-        field: fn(&mut Call) -> &mut u64,
+        field: Field,
     ) {
         let Some(candidate) = candidate else { return };
-        let is_named = match &self.best {
-            Case::Call(call) => *field(&mut call.clone()) == gone,
-            _ => false,
+        let is_given = field(&mut self.best).is_some_and(|number| *number == gone);
+        let lower = |case: &mut Case| {
+            // A number that no record can have stays.
+            if let Some(number @ ..=0xFFFF) = field(case) {
+                *number -= u64::from(*number > gone);
+            }
         };
-        let lower = |call: &mut Call| *field(call) -= u64::from(*field(call) > gone);
-        if !is_named && self.attempt_tree(&candidate, lower) {
+        if !is_given && self.attempt_tree(&candidate, lower) {
             *tree = candidate;
         }
     }
@@ -291,6 +322,38 @@ impl Shrinker<'_> {
         }
     }
 
+    /// Cuts off what all the names begin with where a name is looked up, and the same off that
+    /// name.
+    fn shrink_beginnings(&mut self, tree: &mut Tree) {
+        let Case::Lookup(Lookup { node, name, .. }) = &self.best else { return };
+        let (directory, asked) = (*node as usize, name.clone());
+        let Some(entries) = tree.entries_of(directory).map(<[Entry]>::to_vec) else { return };
+        let (Some(first), Some(last)) = (entries.first(), entries.last()) else { return };
+        // The names are sorted, so what these two share is shared by all. Something stays.
+        let pairs = first.name.bytes.iter().zip(&last.name.bytes);
+        let shared = pairs.take_while(|(one, other)| one == other).count();
+        let mut cut = shared.min(first.name.len() - 1);
+        let beginning = first.name.bytes[..cut].to_vec();
+        while cut > 0 {
+            let mut candidate = tree.clone();
+            if let Node::Directory { entries, .. } = &mut candidate.nodes[directory] {
+                let shorter = |name: &Text| name.part(cut, name.len() - cut);
+                entries.iter_mut().for_each(|entry| entry.name = shorter(&entry.name));
+            }
+            let asked = asked.strip_prefix(&beginning[..cut]).unwrap_or(&asked).to_vec();
+            let rename = |case: &mut Case| {
+                if let Case::Lookup(lookup) = case {
+                    lookup.name = asked;
+                }
+            };
+            if self.attempt_tree(&candidate, rename) {
+                *tree = candidate;
+                return;
+            }
+            cut /= 2;
+        }
+    }
+
     /// For an image that is refused: fewer records and bytes, more zeros.
     fn shrink_bytes(&mut self) {
         for length in [0, 19, 20, self.best.image().len() / 2] {
@@ -327,6 +390,24 @@ impl Shrinker<'_> {
     }
 }
 
+/// A number of a record that a case gives, if it does.
+type Field = fn(&mut Case) -> Option<&mut u64>;
+
+fn mount_of(case: &mut Case) -> Option<&mut u64> {
+    match case {
+        Case::Call(call) => Some(&mut call.mount),
+        _ => None,
+    }
+}
+
+fn node_of(case: &mut Case) -> Option<&mut u64> {
+    match case {
+        Case::Call(call) => Some(&mut call.node),
+        Case::Lookup(lookup) => Some(&mut lookup.node),
+        _ => None,
+    }
+}
+
 /// What of a call can be made smaller wherever it stands.
 struct Parts<'a> {
     mark: &'a mut bool,
@@ -339,7 +420,7 @@ struct Parts<'a> {
 /// The calls of a case that have a path: itself, or the opens of a sequence.
 fn parts(case: &mut Case) -> Vec<Parts<'_>> {
     match case {
-        Case::Table(_) => Vec::new(),
+        Case::Table(_) | Case::Lookup(_) => Vec::new(),
         Case::Call(Call { mark, path, how, added, added_mark, .. }) => {
             vec![Parts { mark, path, how, added, added_mark }]
         }
@@ -396,7 +477,8 @@ mod tests {
     /// A difference that a fault gives, and what is left of it.
     fn shrunk(fault: Fault) -> (Case, Case) {
         let mut subject = Planted(Some(fault));
-        let case = Cases::new(3, Wanted { tables: 5_000, calls: 15_000, sequences: 1_000 })
+        let wanted = Wanted { tables: 5_000, calls: 15_000, sequences: 1_000, lookups: 15_000 };
+        let case = Cases::new(3, wanted)
             .map(|numbered| numbered.case)
             .find(|case| case.compare(&mut subject).is_err());
         let case = case.expect("a difference");
@@ -425,5 +507,39 @@ mod tests {
             let steps = sequence.steps.len();
             assert!(steps <= most, "{fault:?}: {}", Case::Sequence(sequence));
         }
+    }
+
+    #[test]
+    fn a_shrunk_lookup_has_few_names_and_bytes() {
+        for (fault, names, bytes) in [
+            (Fault::LaterMiddle, 2, 1),
+            (Fault::BeginningFound, 1, 1),
+            (Fault::NodeCut16, 0, 0),
+            (Fault::LookupEnters, 1, 9),
+            (Fault::FarBytesUnread, 1, 201),
+        ] {
+            let (case, small) = shrunk(fault);
+            let Case::Lookup(lookup) = &small else { panic!("{fault:?}: {case}") };
+            let entries = accept(&lookup.image).map_or(0, |table| table.entries.len());
+            assert!(entries <= names && lookup.name.len() <= bytes, "{fault:?}: {small}");
+        }
+    }
+
+    /// With a place for each of its names the table would be too long.
+    #[test]
+    fn names_that_share_text_are_made_fewer() {
+        let (mut tree, top) = Tree::mounted();
+        let file = tree.file();
+        let digits: String = (0..700).map(|number| format!("{number:03}")).collect();
+        let text = tree.text(digits.as_bytes());
+        for number in 0..600 {
+            tree.name(top, text.part(3 * number, 250), file);
+        }
+        let (image, name) = (tree.image(), text.part(900, 250).bytes);
+        let case = Case::Lookup(Lookup { image, node: 0, name });
+        let small = shrink(&mut Planted(Some(Fault::EqualUncounted)), &case);
+        let table = accept(small.image()).expect("a table");
+        let [entry] = &table.entries[..] else { panic!("{small}") };
+        assert_eq!((entry.length, table.text.len()), (1, 1), "{small}");
     }
 }

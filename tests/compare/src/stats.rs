@@ -1,10 +1,12 @@
 //! How often each kind of answer, rule, event and count occurred.
 
+mod lookups;
 mod sequences;
 
 use crate::case::Alike;
 use crate::descriptors::{EMFILE, ENOTTY};
 use crate::resolver::{Answer, Event, Met};
+use lookups::Lookups;
 use sequences::Sequences;
 use std::collections::BTreeMap;
 use std::fmt::Display;
@@ -26,6 +28,7 @@ pub struct Stats {
     components: BTreeMap<(u64, String), u64>,
     links: BTreeMap<(u64, String), u64>,
     pub descriptors: Sequences,
+    pub lookups: Lookups,
 }
 
 fn share(count: u64, of: u64) -> f64 {
@@ -81,7 +84,7 @@ fn range(count: u64, bounds: &[u64]) -> (u64, String) {
 
 impl Stats {
     pub fn cases(&self) -> u64 {
-        self.tables + self.calls + self.descriptors.sequences
+        self.tables + self.calls + self.descriptors.sequences + self.lookups.lookups
     }
 
     pub fn note(&mut self, alike: &Alike) {
@@ -106,6 +109,7 @@ impl Stats {
                 }
             }
             Alike::Sequence { accepted, told } => self.descriptors.note(*accepted, told),
+            Alike::Lookup { count, answer } => self.lookups.note(*count, answer),
         }
     }
 
@@ -164,7 +168,8 @@ impl Stats {
             .map(event_name)
             .filter(|name| !self.events.contains_key(name) || !self.stops.contains_key(name))
             .map(String::from);
-        rules.chain(answers).chain(events).chain(self.descriptors.missing()).collect()
+        let others = self.descriptors.missing().into_iter().chain(self.lookups.missing());
+        rules.chain(answers).chain(events).chain(others).collect()
     }
 
     pub fn print(&self) {
@@ -179,6 +184,7 @@ impl Stats {
         self.print_answers();
         self.print_walks();
         self.descriptors.print();
+        self.lookups.print();
     }
 
     fn print_answers(&self) {

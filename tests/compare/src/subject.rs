@@ -25,21 +25,22 @@ pub struct Handle {
 /// The 64 numbers that a table of descriptors is, 0 for a closed one.
 pub type Slots = [u64; SLOTS];
 
-/// How a call on descriptors is made: by the function that wants an accepted image, where
-/// there is one, or by the other; and room for how many numbers it is given.
+/// How a call on descriptors, or a lookup, is made: by the function that wants an accepted
+/// image, where there is one, or by the other; and room for how many numbers it is given.
 #[derive(Clone, Copy)]
 pub struct Way {
     pub accepted: bool,
     pub room: usize,
 }
 
+/// Those of a call on descriptors.
 impl Way {
     pub const CHECKED: Way = Way { accepted: false, room: 7 };
     pub const ACCEPTED: Way = Way { accepted: true, ..Way::CHECKED };
 }
 
 /// Each function gives the numbers that the subject wrote: two for a check or a start, six
-/// for a call, seven for one on descriptors.
+/// for a call, seven for one on descriptors, four for a lookup.
 pub trait Subject {
     fn check(&mut self, image: &mut [u8]) -> Vec<u64>;
     fn resolve(&mut self, lent: &mut Lent, handle: Handle) -> Vec<u64>;
@@ -48,6 +49,8 @@ pub trait Subject {
     fn start_accepted(&mut self, image: &mut [u8], slots: &mut Slots);
     /// A call on descriptors. Path and open_how of an open are lent like the image.
     fn act(&mut self, image: &mut [u8], slots: &mut Slots, step: &mut Step, way: Way) -> Vec<u64>;
+    /// A lookup of a name in the directory `node`.
+    fn lookup(&mut self, image: &mut [u8], node: u64, name: &mut [u8], way: Way) -> Vec<u64>;
 }
 
 /// The second shape of the resolver, with a fault planted or none.
@@ -81,6 +84,13 @@ impl Subject for Planted {
             return Vec::new();
         }
         faulty::act(self.0, image, slots, step, way.accepted).to_vec()
+    }
+
+    fn lookup(&mut self, image: &mut [u8], node: u64, name: &mut [u8], way: Way) -> Vec<u64> {
+        if way.room < 4 {
+            return Vec::new();
+        }
+        faulty::lookup(self.0, image, node, name, way.accepted).to_vec()
     }
 }
 

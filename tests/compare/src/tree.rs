@@ -1,34 +1,47 @@
 //! A tree read from an accepted table, and made smaller.
 
 use crate::resolver::{Node as Record, Table, DIRECTORY, FILE, LINK};
-use data::image::{Entry, Mount, Node, Tree};
+use data::image::{Entry, Mount, Node, Text, Tree};
 
 /// The tree of an accepted table.
 pub fn of(table: &Table) -> Tree {
+    let part = |offset, length| table.text_part(offset, length).unwrap_or(b".").into();
+    Tree { nodes: nodes(table, part), mounts: mounts(table), ..Tree::default() }
+}
+
+/// The same with the text as it lies: where names and bodies share much of it, an image with
+/// a place for each would be too long.
+pub fn in_place(table: &Table) -> Tree {
+    let mut tree = Tree { mounts: mounts(table), ..Tree::default() };
+    let text = tree.text(table.text);
+    tree.nodes = nodes(table, |offset, length| text.part(offset as usize, length as usize));
+    tree
+}
+
+fn mounts(table: &Table) -> Vec<Mount> {
     let mounts = table.mounts.iter().map(|mount| Mount {
         root: mount.root as usize,
         parent: mount.parent as usize,
         point: mount.point as usize,
     });
-    Tree {
-        nodes: table.nodes.iter().map(|record| node_of(table, record)).collect(),
-        mounts: mounts.collect(),
-        ..Tree::default()
-    }
+    mounts.collect()
 }
 
-fn node_of(table: &Table, record: &Record) -> Node {
-    match record.kind {
+/// The nodes, with parts of the text by offset and length.
+fn nodes(table: &Table, part: impl Fn(u64, u64) -> Text) -> Vec<Node> {
+    let node = |record: &Record| match record.kind {
         DIRECTORY => {
-            let entries = table.entries_of(record).iter().filter_map(|entry| {
-                Some(Entry { name: table.name(entry)?.into(), node: entry.node as usize })
+            let entries = table.entries_of(record).iter().map(|entry| Entry {
+                name: part(entry.offset, entry.length),
+                node: entry.node as usize,
             });
             Node::Directory { parent: record.parent as usize, entries: entries.collect() }
         }
         FILE => Node::File,
-        LINK => Node::Link(table.text_part(record.first, record.count).unwrap_or(b".").into()),
+        LINK => Node::Link(part(record.first, record.count)),
         _ => Node::Magic { mount: record.first as usize, node: record.count as usize },
-    }
+    };
+    table.nodes.iter().map(node).collect()
 }
 
 /// Numbers above the one that is gone are one less.

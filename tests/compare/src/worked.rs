@@ -1,6 +1,7 @@
 //! The list of worked cases, asked of both sides.
 
 use crate::case::{Call, Case, Difference};
+use crate::lookup::Lookup;
 use crate::resolver;
 use crate::sequence::Sequence;
 use crate::subject::{Lent, Subject, Way};
@@ -27,6 +28,9 @@ impl From<data::worked::Worked> for Worked {
                 Case::Call(Call { image, mount, node, mark, path, how, added, added_mark })
             }
             Asked::Sequence(steps) => Case::Sequence(Sequence { image, steps }),
+            Asked::Lookup(data::worked::Lookup { node, name }) => {
+                Case::Lookup(Lookup { image, node, name })
+            }
         };
         Worked { listed, case }
     }
@@ -61,6 +65,7 @@ impl Worked {
             Case::Table(image) => resolver::check(image).to_vec(),
             Case::Call(call) => call.answer().0.numbers().to_vec(),
             Case::Sequence(sequence) => sequence.expected().pop().unwrap_or_default(),
+            Case::Lookup(lookup) => lookup.expected().to_vec(),
         };
         self.compare("the comparing resolver", got)
     }
@@ -99,6 +104,7 @@ impl Worked {
                 };
                 sequence.ways().iter().map(last).collect()
             }
+            Case::Lookup(lookup) => lookup.got(subject),
         }
     }
 

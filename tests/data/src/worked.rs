@@ -1,6 +1,6 @@
-//! The list of worked cases: table checks, calls, and sequences of calls on descriptors,
-//! whose answers were worked out by hand. tests/cases writes it, as the input of the
-//! program crates/cases, which says how it is laid out.
+//! The list of worked cases: table checks, calls, sequences of calls on descriptors, and
+//! lookups, whose answers were worked out by hand. tests/cases writes it, as the input of
+//! the program crates/cases, which says how it is laid out.
 
 use crate::fields::get;
 use crate::hex;
@@ -22,7 +22,8 @@ pub struct Worked {
     pub image: Vec<u8>,
     pub asked: Asked,
     /// Rule and record of a check or a start; errno (0 if found or done), detail, mount,
-    /// node, components and links of a call, and of one on descriptors the number given.
+    /// node, components and links of a call, and of one on descriptors the number given;
+    /// errno, entry, node and names compared of a lookup.
     pub expected: Vec<u64>,
 }
 
@@ -34,6 +35,7 @@ pub enum Asked {
     /// The last of some calls on descriptors that were started over the image; with no
     /// call, the start.
     Sequence(Vec<Step>),
+    Lookup(Lookup),
 }
 
 #[derive(Clone, Debug, PartialEq)]
@@ -43,6 +45,13 @@ pub struct Call {
     pub mark: bool,
     pub path: Vec<u8>,
     pub how: Vec<u8>,
+}
+
+/// A name that is looked up in the directory `node`.
+#[derive(Clone, Debug, PartialEq)]
+pub struct Lookup {
+    pub node: u64,
+    pub name: Vec<u8>,
 }
 
 /// The list in a file. The error is one line that names the file.
@@ -104,6 +113,7 @@ impl Record<'_> {
                 *started = Some((image.clone(), Vec::new()));
                 (Asked::Sequence(Vec::new()), 2)
             }
+            8 => (Asked::Lookup(self.lookup()?), 4),
             kind => {
                 let step = self.step(kind)?;
                 let (_, steps) = started.as_mut().filter(|(over, _)| *over == image)?;
@@ -127,6 +137,13 @@ impl Record<'_> {
             path: self.part(12)?,
             how: self.part(20)?,
         })
+    }
+
+    /// A lookup; its name stands where a call has its path, and nothing where a call has more.
+    fn lookup(&self) -> Option<Lookup> {
+        let unused = [self.number(24, 4)?, self.number(36, 4)?, self.number(40, 8)?];
+        let lookup = Lookup { node: self.number(48, 8)?, name: self.part(12)? };
+        unused.iter().all(|number| *number == 0).then_some(lookup)
     }
 
     /// A call on descriptors; its number stands where a handle has its mount.
@@ -158,6 +175,9 @@ impl fmt::Display for Worked {
                 f.write_str(&call_arguments(&self.image, handle, &call.path, &call.how))
             }
             Asked::Sequence(steps) => f.write_str(&sequence_arguments(&self.image, steps)),
+            Asked::Lookup(Lookup { node, name }) => {
+                f.write_str(&lookup_arguments(&self.image, *node, name))
+            }
         }
     }
 }
@@ -184,6 +204,11 @@ pub fn call_arguments(
 /// `compare replay`.
 pub fn sequence_arguments(image: &[u8], steps: &[Step]) -> String {
     format!("--image {} --sequence {}", argument(image), quoted(written(steps)))
+}
+
+/// A lookup of a name in the directory `node`, as the arguments of `compare replay`.
+pub fn lookup_arguments(image: &[u8], node: u64, name: &[u8]) -> String {
+    format!("--image {} --node {node} --name {}", argument(image), argument(name))
 }
 
 /// The bytes as one argument.
@@ -225,6 +250,12 @@ mod tests {
             .contains(" --node 1 --mark 0 --path 63616c2f74617265 --how 0000"));
         let check = cases.iter().find(|case| case.asked == Asked::Check).unwrap();
         assert_eq!(check.expected.len(), 2);
+        let lookup = cases.iter().find(|case| case.name == "lookup-middle").unwrap();
+        let named = Lookup { node: 2, name: b"loop".to_vec() };
+        assert_eq!(
+            (&lookup.asked, &lookup.expected[..]),
+            (&Asked::Lookup(named), &[0, 5, 6, 1][..])
+        );
     }
 
     /// A record of a kind over the image, with a number, and expected numbers from 1 on.
@@ -274,13 +305,41 @@ mod tests {
     #[test]
     fn a_sequence_that_is_wrong_is_refused() {
         // Without a start; an unknown kind; more numbers than a start has.
-        for kinds in [&[(5, 0, 7)][..], &[(3, 0, 2), (8, 0, 7)], &[(3, 0, 3)]] {
+        for kinds in [&[(5, 0, 7)][..], &[(3, 0, 2), (9, 0, 7)], &[(3, 0, 3)]] {
             assert!(read(&list_of(kinds)).is_err(), "{kinds:?}");
         }
         // A call over another image than its start's.
         let mut list = list_of(&[(3, 0, 2), (5, 0, 7)]);
         set(&mut list, 4 + RECORD + 8, 4, 1);
         assert_eq!(read(&list).unwrap_err(), "case 1 is wrong or cut off");
+    }
+
+    #[test]
+    fn a_lookup_has_its_node_and_name() {
+        // It leaves a sequence as it is. Its node stands behind the number, and the name is
+        // the image's second byte.
+        let mut list = list_of(&[(3, 0, 2), (8, 0, 4), (5, 0, 7), (8, 0, 0)]);
+        let [record, unnamed] = [1, 3].map(|i| 4 + RECORD * i);
+        let end = list.len();
+        for (at, width, number) in
+            [(record + 12, 4, end - 1), (record + 16, 4, 1), (record + 48, 8, (1 << 32) + 1)]
+        {
+            set(&mut list, at, width, number);
+        }
+        let cases = read(&list).unwrap();
+        let lookup = Lookup { node: (1 << 32) + 1, name: b"m".to_vec() };
+        assert_eq!(cases[1].asked, Asked::Lookup(lookup));
+        assert_eq!(cases[1].expected, [1, 2, 3, 4]);
+        assert_eq!(cases[1].to_string(), "--image 696d --node 4294967297 --name 6d");
+        assert_eq!(cases[2].asked, Asked::Sequence(vec![Step::Dup(0)]));
+        assert_eq!(cases[3].asked, Asked::Lookup(Lookup { node: 0, name: Vec::new() }));
+        assert_eq!(cases[3].to_string(), "--image 696d --node 0 --name ''");
+        // What only other kinds have: an open_how, a mark, a mount, a fifth number.
+        for (at, number) in [(24, 1), (36, 1), (40, 1), (56 + 16, 1)] {
+            let mut wrong = list.clone();
+            set(&mut wrong, unnamed + at, 4, number);
+            assert_eq!(read(&wrong).unwrap_err(), "case 3 is wrong or cut off", "{at}");
+        }
     }
 
     #[test]

@@ -102,6 +102,14 @@ fn outputs_are_written_whole_or_not_at_all() {
             )
         });
     }
+    for (name, answer) in [(&b"fd"[..], [0, 4, 10, 3]), (b"nope", [2, 0, 0, 3])] {
+        for function in [ventolaire_lookup as Lookup, ventolaire_lookup_accepted] {
+            let (image, len) = (IMAGE.as_ptr(), IMAGE.len());
+            writes_all_or_nothing(answer, |out, out_len| unsafe {
+                function(image, len, 2, name.as_ptr(), name.len(), out, out_len)
+            });
+        }
+    }
 }
 
 #[test]
@@ -184,6 +192,11 @@ fn over_an_accepted_table_the_answer_is_the_same() {
         both(row.handle, b"", &how);
         both(row.handle, row.path.as_bytes(), &how[1..]);
     }
+    for node in (0..13).chain([1 << 16, 1 << 32, u64::MAX]) {
+        for name in table.entries().map(|entry| entry.name).chain([&b""[..], b"nope", b"\0"]) {
+            assert_eq!(lookup_accepted(&table, node, name), lookup(IMAGE, node, name));
+        }
+    }
 }
 
 #[test]
@@ -222,6 +235,13 @@ fn null_goes_with_no_bytes() {
     };
     assert_eq!(resolve(24), [2, 255, 0, 0, 0, 0]);
     assert_eq!(resolve(0), [22, 255, 0, 0, 0, 0]);
+
+    let mut lookup = |image: *const u8, len: usize| unsafe {
+        let written = ventolaire_lookup(image, len, 2, null, 0, out.as_mut_ptr(), 6);
+        (written, [out[0], out[1], out[2], out[3]])
+    };
+    assert_eq!(lookup(IMAGE.as_ptr(), IMAGE.len()), (4, [2, 0, 0, 2]));
+    assert_eq!(lookup(null, 0), (4, [117, 0, 0, 0]));
 }
 
 #[test]

@@ -283,10 +283,10 @@ impl Plain<'_> {
 }
 
 /// Numbers by chance, the same for the same seed.
-struct Dice(u32);
+pub struct Dice(pub u32);
 
 impl Dice {
-    fn below(&mut self, bound: usize) -> usize {
+    pub fn below(&mut self, bound: usize) -> usize {
         self.0 = self.0.wrapping_mul(1_664_525).wrapping_add(1_013_904_223);
         (self.0 >> 8) as usize % bound
     }

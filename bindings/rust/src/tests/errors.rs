@@ -15,6 +15,9 @@ fn errors_have_their_numbers() {
     let refusal = resolve(b"", LAB, "cal", OpenHow::new()).unwrap_err();
     is_error(&refusal);
     assert_eq!(Refusal::from(broken), refusal);
+    let refusal = lookup(b"", 0, "lab").unwrap_err();
+    is_error(&refusal);
+    assert_eq!(NameRefusal::from(broken), refusal);
 }
 
 #[cfg(feature = "std")]
@@ -28,6 +31,10 @@ fn errors_become_those_of_std() {
     let table = Table::new(bench_tree::IMAGE).unwrap();
     let refusal = table.resolve(LAB, "none", OpenHow::new()).unwrap_err();
     assert_eq!(Error::from(refusal).kind(), ErrorKind::NotFound);
+    let refusal = table.lookup(1, "none").unwrap_err();
+    assert_eq!(Error::from(refusal).kind(), ErrorKind::NotFound);
+    let refusal = table.lookup(12, "lab").unwrap_err();
+    assert_eq!(Error::from(refusal).raw_os_error(), Some(9));
     assert_eq!(Error::from(check(b"").unwrap_err()).raw_os_error(), Some(117));
     let odd = Error::from(Errno::Other(1 << 40));
     assert_eq!(

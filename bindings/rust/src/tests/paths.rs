@@ -15,6 +15,8 @@ fn paths_are_bytes_of_many_types() {
     assert_eq!(place(b"cal/tare"), Ok(3));
     assert_eq!(place(&&b"cal/tare"[..]), Ok(3));
     assert_eq!(place(&c"cal/tare"), Ok(3));
+    let name = |name: &dyn AsPath| table.lookup(2, name.path_bytes()).map(|found| found.node);
+    assert_eq!([name(&"tare"), name(b"tare"), name(&c"tare")], [Ok(3); 3]);
     // Taken as they are: not folded, cut off, or decoded.
     let errno = |path: &dyn AsPath| place(path).map_err(|refusal| refusal.errno);
     assert_eq!(errno(&"cal//./tare/"), Err(Errno::ENOTDIR));
@@ -39,6 +41,9 @@ fn paths_are_bytes_of_stds_types_too() {
     assert!(found(&table, Path::new("cal/tare")) && found(&table, PathBuf::from("cal/tare")));
     assert!(
         found(&table, Cow::Borrowed("cal/tare")) && found(&table, Box::<str>::from("cal/tare"))
+    );
+    assert!(
+        table.lookup(2, OsStr::new("tare")).is_ok() && table.lookup(2, Path::new("up")).is_ok()
     );
     assert_eq!(OsStr::from_bytes(b"\xff").path_bytes(), b"\xff");
 }

@@ -1,7 +1,7 @@
 -- `descriptors::start` meets its contract. Assumes nothing.
 use borrow.Author.Needs.{needs}
 use denote.Ref.{now}
-use Rattle.resolver.proofs.CallLaws.{accepted-told}
+use Rattle.laws.proofs.Acceptance.{accepted-told}
 use Rattle.descriptors.proofs.ReplyLaws.{start-broken}
 use Rattle.descriptors.proofs.start.Statement.{statement}
 use Rattle.descriptors.proofs.start.Tie as tie

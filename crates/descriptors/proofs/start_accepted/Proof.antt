@@ -1,7 +1,7 @@
 -- `descriptors::start_accepted` meets its contract. Assumes nothing.
 use borrow.Author.Needs.{needs}
 use denote.Ref.{now}
-use Rattle.resolver.proofs.CallLaws.{header, counts}
+use Rattle.image.proofs.CountLaws.{header, counts}
 use Rattle.descriptors.proofs.ReplyLaws.{some-mount, start-open}
 use Rattle.descriptors.proofs.start_accepted.Statement.{statement}
 use Rattle.descriptors.proofs.start_accepted.Tie as tie

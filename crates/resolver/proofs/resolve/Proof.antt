@@ -1,6 +1,7 @@
 -- `resolver::resolve` meets its contract. Assumes nothing.
 use borrow.Author.Needs.{needs}
-use Rattle.resolver.proofs.CallLaws.{accepted-told, broken-call}
+use Rattle.laws.proofs.Acceptance.{accepted-told}
+use Rattle.resolver.proofs.CallLaws.{broken-call}
 use Rattle.resolver.proofs.resolve.Statement.{statement}
 use Rattle.resolver.proofs.resolve.Tie as tie
 

@@ -1,6 +1,7 @@
 -- `resolver::resolve_accepted` meets its contract. Assumes nothing.
 use borrow.Author.Needs.{needs}
-use Rattle.resolver.proofs.CallLaws.{header, counts, path-few, walking, handle-found, read-refused, read-walked}
+use Rattle.image.proofs.CountLaws.{header, counts}
+use Rattle.resolver.proofs.CallLaws.{path-few, walking, handle-found, read-refused, read-walked}
 use Rattle.resolver.proofs.resolve_accepted.Statement.{statement}
 use Rattle.resolver.proofs.resolve_accepted.Tie as tie
 

@@ -10,15 +10,14 @@ returns-2 c =
     let d = c .before .before .before in
     let s = d .before .before .before in
     deciding-before (d .deciding .ensures) (s .before .shared-slice-known .given) (s .shared-slice-known2 .given)
-    (c .before .before .big32-at .ensures .0) (c .before .big32-at2 .ensures .0) (omega arith) (omega arith) (c .if2 .taken)
+    (c .before .before .big32-at .ensures .0) (c .before .big32-at2 .ensures .0) (omega arith) (d .before .before .shorter .ensures) (c .if2 .taken)
 
 returns-3 : tie.Need-returns-3
 returns-3 c =
     let d = c .before .before .before in
     let s = d .before .before .before in
     deciding-begun (d .deciding .ensures) (s .before .shared-slice-known .given) (s .shared-slice-known2 .given)
-    (c .before .before .big32-at .ensures .0) (c .before .big32-at2 .ensures .0) (omega arith) (omega arith)
-    (λ h. omega (arith, d .before .before .shorter .ensures .2 (omega arith))) (c .if2 .left)
+    (c .before .before .big32-at .ensures .0) (c .before .big32-at2 .ensures .0) (omega arith) (d .before .before .shorter .ensures) (c .if2 .left)
 
 pub comes-before-spec : {M : Type 1} → statement M
 comes-before-spec =

@@ -1,17 +1,20 @@
 //! The resolver once more, in another shape and with room for faults.
 //!
 //! It reads every field from the image's bytes when it needs it, keeps
-//! the unread text as one run of bytes, and packs a descriptor in one number.
-//! With no fault planted it must agree with `resolver` and `descriptors`, which
-//! checks both; with one of `faults` planted the comparison must find it, which
-//! checks the comparison and its inputs.
+//! the unread text as one run of bytes, packs a descriptor in one number, and
+//! finds a name by the halving that counts. With no fault planted it must agree
+//! with `resolver`, `descriptors` and `halving`, which checks both; with one of
+//! `faults` planted the comparison must find it, which checks the comparison and
+//! its inputs.
 
 mod descriptors;
 mod how;
+mod lookup;
 mod table;
 mod walk;
 
 pub use descriptors::{act, start};
+pub use lookup::lookup;
 
 use crate::faults::Fault;
 use crate::resolver::{EINVAL, ENAMETOOLONG, ENOENT, EUCLEAN};

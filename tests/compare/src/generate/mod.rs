@@ -1,15 +1,16 @@
-//! Seeded inputs: tables in many shapes, damage to them, calls, and sequences of calls on
-//! descriptors.
+//! Seeded inputs: tables in many shapes, damage to them, calls, sequences of calls on
+//! descriptors, and lookups.
 //!
 //! Most calls are meant to reach the walk and go on for several components,
 //! so paths are grown along the table with the resolver itself. A case is
-//! fixed by the seed, its stream (tables, calls or sequences) and its number.
+//! fixed by the seed, its stream (tables, calls, sequences or lookups) and its number.
 //!
 //! A table begins with nodes (`nodes`), which are named (`names`), mounted
 //! (`mounts`) and given targets and bodies (`bodies`), with links that lead on and
 //! on (`chains`); or it is as large as can be (`limits`). Then it may be spoiled
 //! (`damage`). A call has an open_how (`hows`), a handle (`handles`) and a path
 //! (`paths`); so has each open of a sequence (`sequences`), its handle being a descriptor's.
+//! A lookup (`lookups`) is mostly about a table that has more names than others (`listings`).
 
 mod bodies;
 mod calls;
@@ -18,6 +19,8 @@ mod damage;
 mod handles;
 mod hows;
 mod limits;
+mod listings;
+mod lookups;
 mod mounts;
 mod names;
 mod nodes;
@@ -32,6 +35,7 @@ use crate::resolver::accept;
 use calls::call;
 use damage::damage;
 use data::dice::Dice;
+use lookups::lookups;
 use sequences::sequence;
 use std::collections::VecDeque;
 use tables::table;
@@ -39,6 +43,7 @@ use tables::table;
 const TABLES_A_GROUP: u64 = 4;
 const CALLS_A_GROUP: u64 = 12;
 const SEQUENCES_A_GROUP: u64 = 1;
+const LOOKUPS_A_GROUP: u64 = 24;
 
 /// Some checks of one table: as it is, and damaged.
 fn table_group(seed: u64, group: u64) -> Vec<Case> {
@@ -64,6 +69,12 @@ fn sequence_group(seed: u64, group: u64) -> Vec<Case> {
     vec![Case::Sequence(sequence(&mut Dice::new(seed, 4, group)))]
 }
 
+/// Some lookups in one table.
+fn lookup_group(seed: u64, group: u64) -> Vec<Case> {
+    let mut dice = Dice::new(seed, 5, group);
+    lookups(&mut dice, LOOKUPS_A_GROUP as usize).into_iter().map(Case::Lookup).collect()
+}
+
 /// The cases of a group, by the seed and its number.
 type Group = fn(u64, u64) -> Vec<Case>;
 
@@ -80,6 +91,7 @@ pub fn one(seed: u64, stream: &str, number: u64) -> Option<Case> {
         "table" => (table_group as Group, TABLES_A_GROUP),
         "call" => (call_group as Group, CALLS_A_GROUP),
         "sequence" => (sequence_group as Group, SEQUENCES_A_GROUP),
+        "lookup" => (lookup_group as Group, LOOKUPS_A_GROUP),
         _ => return None,
     };
     group(seed, number / many).into_iter().nth((number % many) as usize)
@@ -91,12 +103,13 @@ pub struct Wanted {
     pub tables: u64,
     pub calls: u64,
     pub sequences: u64,
+    pub lookups: u64,
 }
 
 /// All the cases of a run, a group of each stream in turn.
 pub struct Cases {
     seed: u64,
-    streams: [Stream; 3],
+    streams: [Stream; 4],
     ready: VecDeque<Numbered>,
 }
 
@@ -132,6 +145,7 @@ impl Cases {
             stream("table", table_group, TABLES_A_GROUP, wanted.tables),
             stream("call", call_group, CALLS_A_GROUP, wanted.calls),
             stream("sequence", sequence_group, SEQUENCES_A_GROUP, wanted.sequences),
+            stream("lookup", lookup_group, LOOKUPS_A_GROUP, wanted.lookups),
         ];
         Cases { seed, streams, ready: VecDeque::new() }
     }

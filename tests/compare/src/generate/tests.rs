@@ -1,5 +1,6 @@
 use super::*;
 use crate::faults::Fault;
+use crate::resolver::{Entry, DIRECTORY};
 use crate::stats::Stats;
 use crate::subject::Planted;
 use crate::tree;
@@ -7,7 +8,8 @@ use crate::tree;
 #[test]
 fn the_two_shapes_agree_and_all_occurs() {
     let mut stats = Stats::default();
-    for numbered in Cases::new(5, Wanted { tables: 3_000, calls: 9_000, sequences: 500 }) {
+    let wanted = Wanted { tables: 3_000, calls: 9_000, sequences: 500, lookups: 3_000 };
+    for numbered in Cases::new(5, wanted) {
         let alike = numbered.case.compare(&mut Planted(None));
         match alike {
             Ok(alike) => stats.note(&alike),
@@ -19,28 +21,41 @@ fn the_two_shapes_agree_and_all_occurs() {
 
 #[test]
 fn a_case_stands_by_itself() {
-    for numbered in Cases::new(9, Wanted { tables: 50, calls: 100, sequences: 20 }) {
+    let wanted = Wanted { tables: 50, calls: 100, sequences: 20, lookups: 100 };
+    for numbered in Cases::new(9, wanted) {
         let again = one(9, numbered.stream, numbered.number);
         assert!(again == Some(numbered.case));
     }
-    assert_eq!(Cases::new(9, Wanted { tables: 3, calls: 5, sequences: 2 }).count(), 10);
+    let few = Wanted { tables: 3, calls: 5, sequences: 2, lookups: 7 };
+    assert_eq!(Cases::new(9, few).count(), 17);
 }
 
 #[test]
 fn faults_are_found() {
-    let wanted = Wanted { tables: 1_000, calls: 3_000, sequences: 300 };
-    for fault in [Fault::RootsParent, Fault::UnknownLow32, Fault::SumAtLast, Fault::MarkShared] {
+    let wanted = Wanted { tables: 1_000, calls: 3_000, sequences: 300, lookups: 3_000 };
+    for fault in [
+        Fault::RootsParent,
+        Fault::UnknownLow32,
+        Fault::SumAtLast,
+        Fault::MarkShared,
+        Fault::LaterMiddle,
+    ] {
         let mut subject = Planted(Some(fault));
         let mut cases = Cases::new(1, wanted);
         assert!(cases.any(|numbered| numbered.case.compare(&mut subject).is_err()));
     }
 }
 
+/// The faults from one to another.
+fn faults(first: Fault, last: Fault) -> &'static [Fault] {
+    let place = |wanted| Fault::ALL.iter().position(|fault| *fault == wanted).unwrap();
+    &Fault::ALL[place(first)..=place(last)]
+}
+
 /// What else is compared finds them sooner, but the replies must show them too.
 #[test]
 fn faults_of_descriptors_are_found_by_replies_alone() {
-    let first = Fault::ALL.iter().position(|fault| *fault == Fault::HighestFree).unwrap();
-    for fault in &Fault::ALL[first..] {
+    for fault in faults(Fault::HighestFree, Fault::RefusedFirst) {
         let mut subject = Planted(Some(*fault));
         let mut differs = |case| match case {
             Case::Sequence(sequence) => sequence
@@ -52,6 +67,93 @@ fn faults_of_descriptors_are_found_by_replies_alone() {
         let mut cases = Cases::new(2, Wanted { sequences: 500, ..Wanted::default() });
         assert!(cases.any(|numbered| differs(numbered.case)), "{fault:?}");
     }
+}
+
+/// The rooms and the digits aside; but a name that was changed shows in no answer.
+#[test]
+fn faults_of_lookups_are_found_by_answers_alone() {
+    for fault in faults(Fault::LaterMiddle, Fault::LookupEnters) {
+        let mut subject = Planted(Some(*fault));
+        let mut differs = |case| match case {
+            Case::Lookup(lookup) => lookup.got(&mut subject).into_iter().any(|(got, untouched)| {
+                got != lookup.expected() || (*fault == Fault::TouchedName && !untouched)
+            }),
+            _ => false,
+        };
+        let mut cases = Cases::new(2, Wanted { lookups: 3_000, ..Wanted::default() });
+        assert!(cases.any(|numbered| differs(numbered.case)), "{fault:?}");
+    }
+}
+
+/// Names as they are asked for: in the directory, near to one that is, or none at all.
+#[test]
+fn names_of_every_kind_are_looked_up() {
+    let kinds = "first middle last before between after cut longer changed high empty . .. \
+                 slash zero 255 256 5000 cut-16";
+    let mut missing: Vec<&str> = kinds.split(' ').collect();
+    for numbered in Cases::new(6, Wanted { lookups: 2_000, ..Wanted::default() }) {
+        let Case::Lookup(lookup) = numbered.case else { continue };
+        let Ok(table) = accept(&lookup.image) else { continue };
+        let Some(directory) = table.node(lookup.node) else { continue };
+        let entries = table.entries_of(directory).iter();
+        let names: Vec<&[u8]> = entries.filter_map(|entry| table.name(entry)).collect();
+        missing.retain(|kind| !is_of_kind(kind, &names, &lookup.name));
+    }
+    assert_eq!(missing, Vec::<&str>::new());
+}
+
+/// Whether a name is of a kind, in a directory of two names or more.
+fn is_of_kind(kind: &str, names: &[&[u8]], name: &[u8]) -> bool {
+    let [first, between @ .., last] = names else { return false };
+    let is_absent = !names.contains(&name);
+    let differ = |other: &[u8]| other.iter().zip(name).filter(|(one, two)| one != two).count();
+    let any = |is_near: &dyn Fn(&[u8]) -> bool| is_absent && names.iter().any(|one| is_near(one));
+    match kind {
+        "first" => name == *first,
+        "middle" => between.contains(&name),
+        "last" => name == *last,
+        "before" => name < *first,
+        "between" => is_absent && *first < name && name < *last,
+        "after" => *last < name,
+        "cut" => any(&|other| other.len() == name.len() + 1 && other.starts_with(name)),
+        "longer" => any(&|other| other.len() + 1 == name.len() && name.starts_with(other)),
+        "changed" => any(&|other| other.len() == name.len() && differ(other) == 1),
+        "empty" => name.is_empty(),
+        "slash" => name.contains(&b'/'),
+        "zero" => name.contains(&0),
+        "high" => !is_absent && !name.is_ascii(),
+        "cut-16" => names.contains(&&name[..name.len() & 0xFFFF]) && name.len() > 0xFFFF,
+        "." | ".." => name == kind.as_bytes(),
+        length => length.parse() == Ok(name.len()),
+    }
+}
+
+/// Directories of every size up to the most, among them such whose names are alike in their
+/// first 200 bytes, or share text.
+#[test]
+fn listings_have_names_of_every_kind() {
+    let (mut digits, mut alike, mut sharing, mut refused) = ([false; 14], 0, 0, 0);
+    for number in 0..600 {
+        let image = listings::listing(&mut Dice::new(8, 6, number));
+        let Ok(table) = accept(&image) else {
+            refused += 1;
+            continue;
+        };
+        for directory in table.nodes.iter().filter(|node| node.kind == DIRECTORY) {
+            digits[(u64::BITS - directory.count.leading_zeros()) as usize] = true;
+            let beside = table.entries_of(directory).windows(2);
+            let has_many = |pairs: usize| usize::from(pairs > 20);
+            let begins = |entry: &Entry| table.name(entry).and_then(|name| name.get(..200));
+            let is_alike =
+                |two: &&[_]| begins(&two[0]).is_some_and(|one| begins(&two[1]) == Some(one));
+            alike += has_many(beside.clone().filter(is_alike).count());
+            let reaches = |one: &Entry, two: &Entry| one.offset < two.offset + two.length;
+            let is_shared = |two: &&[_]| reaches(&two[0], &two[1]) && reaches(&two[1], &two[0]);
+            sharing += has_many(beside.filter(is_shared).count());
+        }
+    }
+    assert_eq!(digits, [true; 14]);
+    assert!(alike > 20 && sharing > 20 && refused < 10, "{alike} {sharing} {refused}");
 }
 
 #[test]

@@ -9,9 +9,9 @@ use super::{Handle, Lent, Slots, Subject, Way};
 use crate::descriptors::SLOTS;
 use data::sequence::{Open, Step};
 use ventolaire_sys::{
-    ventolaire_check, ventolaire_close, ventolaire_descriptors, ventolaire_dup, ventolaire_open,
-    ventolaire_open_accepted, ventolaire_resolve, ventolaire_set_mark, ventolaire_start,
-    ventolaire_start_accepted,
+    ventolaire_check, ventolaire_close, ventolaire_descriptors, ventolaire_dup, ventolaire_lookup,
+    ventolaire_lookup_accepted, ventolaire_open, ventolaire_open_accepted, ventolaire_resolve,
+    ventolaire_set_mark, ventolaire_start, ventolaire_start_accepted,
 };
 // It is this crate that has the library linked.
 use ventolaire as _;
@@ -21,10 +21,10 @@ use ventolaire as _;
 const UNTOUCHED: u64 = 0xA5A5_5A5A_C3C3_3C3C;
 const ROOM: usize = 10;
 
-/// The numbers written; all of the room if the subject wrote, or says
-/// that it wrote, more than it was given.
+/// The numbers written; all of the room if the subject wrote more than it
+/// says, or says that it wrote more than it was given.
 fn written(out: &[u64; ROOM], out_len: usize, count: usize) -> Vec<u64> {
-    let beyond = out[out_len..].iter().any(|number| *number != UNTOUCHED);
+    let beyond = out.iter().skip(count).any(|number| *number != UNTOUCHED);
     if beyond || count > out_len {
         out.to_vec()
     } else {
@@ -115,6 +115,18 @@ impl Subject for Linked {
                 }
             }
         });
+        written(&out, way.room, count)
+    }
+
+    fn lookup(&mut self, image: &mut [u8], node: u64, name: &mut [u8], way: Way) -> Vec<u64> {
+        let function: ventolaire_sys::Lookup =
+            if way.accepted { ventolaire_lookup_accepted } else { ventolaire_lookup };
+        let mut out = [UNTOUCHED; ROOM];
+        let (image, len) = (image.as_mut_ptr(), image.len());
+        // SAFETY: as said above; and an image said to be accepted is.
+        let count = unsafe {
+            function(image, len, node, name.as_mut_ptr(), name.len(), out.as_mut_ptr(), way.room)
+        };
         written(&out, way.room, count)
     }
 }

@@ -1,4 +1,4 @@
--- `tree::find_entry` meets its contract. The loop's invariant: the search is that from `e` on. Assumes nothing.
+-- `name_search::scan_names` meets its contract. The loop's invariant: the search is that from `e` on. Assumes nothing.
 use borrow.Author.Needs.{needs}
 use Prim.Native.Nat.{ℕ, _+_, _-_, _≤_, _<_}
 use mathlib.Core.Path.{_≡_, ap, ap₂, _∙_, sym}
@@ -6,11 +6,11 @@ use native.Mathlib.Omega.{arith}
 use denote.Ref.{now}
 use Rattle.model.specs.Bytes.{find, sameBytes}
 use Rattle.model.specs.Tree.{treeOf, lookup}
-use Rattle.laws.proofs.Acceptance.{accepted-below, accepted-sound, entries-inside, name-facts}
+use Rattle.laws.proofs.Acceptance.{accepted-below, accepted-sound, entries-inside, entry-facts}
 use Rattle.laws.proofs.ByteLaws.{Finds, finds-here, finds-on, finds-none}
 use Rattle.parts.specs.Searches.{searchOf}
-use Rattle.tree.proofs.find_entry.Statement.{statement}
-use Rattle.tree.proofs.find_entry.Tie as tie
+use Rattle.name_search.proofs.scan_names.Statement.{statement}
+use Rattle.name_search.proofs.scan_names.Tie as tie
 
 abbrev Inv-loop : tie.InvT-loop
 Inv-loop image c n wanted e₀ end e =
@@ -47,7 +47,7 @@ is-named-requires c κs =
     let sound = accepted-sound s (pre .1) in
     let inside = entries-inside (treeOf s) (sound .nodes-hold .directories-hold) (args .n) (pre .2) in
     let below : loop .e < treeOf s .entries = omega arith in
-    (pre .0, below, name-facts (treeOf s) sound (loop .e) below .0)
+    (pre .0, below, entry-facts (treeOf s) sound (loop .e) below .0, pre .3)
 
 returns : tie.Need-returns Inv-loop μ-loop
 returns c =
@@ -60,8 +60,8 @@ loop-again c =
     let other = sym (c .before .is-named .ensures) ∙ c .if1 .left in
     (inv .0, omega arith, omega arith, finds-on (inv .3) (c .before .before .loop-test .taken) other)
 
-pub find-entry-spec : {M : Type 1} → statement M
-find-entry-spec =
+pub scan-names-spec : {M : Type 1} → statement M
+scan-names-spec =
     tie.close
     (tie.spec
     Inv-loop
