@@ -463,8 +463,10 @@ impl<'a> Table<'a> {
         &self.text[entry.name_at as usize..][..usize::from(entry.name_len)]
     }
 
-    /// The entry of this name in a directory, whose names are sorted.
-    fn lookup(&self, directory: u16, name: &[u8]) -> Option<(usize, Entry)> {
+    /// The entry of this name in a directory, whose names are sorted. A function for the
+    /// walk and one for lookups, so that each is inlined where it is called: the walk
+    /// would otherwise pay for a call at each component.
+    fn lookup<const IN_WALK: bool>(&self, directory: u16, name: &[u8]) -> Option<(usize, Entry)> {
         let directory = self.node(directory);
         let entries = self.entries_of(directory);
         let at = entries.binary_search_by(|record| self.name(record).cmp(name)).ok()?;
@@ -518,7 +520,7 @@ pub fn lookup_checked(image: &[u8], node: u64, name: &[u8]) -> Result<(usize, u1
     if !table.node(node).is_directory() {
         return Err(Errno::ENOTDIR);
     }
-    let (number, entry) = table.lookup(node, name).ok_or(Errno::ENOENT)?;
+    let (number, entry) = table.lookup::<false>(node, name).ok_or(Errno::ENOENT)?;
     Ok((number, entry.node))
 }
 
@@ -700,7 +702,8 @@ impl Walk<'_> {
             if component.len() > MAX_NAME {
                 return Err(Errno::ENAMETOOLONG);
             }
-            let (_, entry) = table.lookup(self.place.node, component).ok_or(Errno::ENOENT)?;
+            let (_, entry) =
+                table.lookup::<true>(self.place.node, component).ok_or(Errno::ENOENT)?;
             let number = entry.node;
             let node = table.node(number);
             match node.kind {

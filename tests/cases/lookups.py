@@ -229,10 +229,9 @@ over(PAIRS, "pairs")
 for directory, length, first, second in [
     (1, 4, 0, 1), (2, 7, 2, 3), (3, 8, 4, 5), (4, 9, 6, 7), (5, 16, 8, 9), (6, 31, 10, 11), (7, 32, 12, 13), (8, 33, 14, 15), (9, 255, 16, 17),
 ]:
-    between = "n" * (length - 2)
-    lookup(f"lookup-pair-{length}-first", directory, f"a{between}z", named(first, 10, 1), shown="the first")
-    lookup(f"lookup-pair-{length}-second", directory, f"b{between}a", named(second, 11, 2), shown="the second")
-    lookup(f"lookup-pair-{length}-between", directory, f"a{between}~", absent(2), shown="the first, but with `~` at its end")
+    lookup(f"lookup-pair-{length}-first", directory, "a" + "z" * (length - 1), named(first, 10, 1), shown="the first")
+    lookup(f"lookup-pair-{length}-second", directory, "b" + "a" * (length - 1), named(second, 11, 2), shown="the second")
+    lookup(f"lookup-pair-{length}-between", directory, "a" + "z" * (length - 2) + "~", absent(2), shown="the first, but with `~` at its end")
 
 # Of 13 names 6 is compared first; before it 2, then 0 and 1, or 4 and 3 or 5; after it 9, then 7 and 8, or 11 and 10 or 12. So 3 for what is
 # absent before 0 and between 6 and 7, and 4 else. A name with its `m` further on is later.

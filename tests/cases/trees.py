@@ -307,17 +307,15 @@ def lengths():
 
 def pairs():
     """Directories 1 to 9 in the top, all of them unnamed, each with two names of one length, for files 10 and 11: of 4, 7, 8, 9, 16, 31, 32,
-    33 and 255 bytes. The first begins with `a` and ends in `z`, the second begins with `b` and ends in `a`; between is `n`. Directory d has
-    entries 2 d - 2 and 2 d - 1."""
+    33 and 255 bytes. The first is `a` and then `z`, the second `b` and then `a`. Directory d has entries 2 d - 2 and 2 d - 1."""
     t = Tree()
     top = t.top()
     lengths = [4, 7, 8, 9, 16, 31, 32, 33, 255]
     directories = [t.directory(top) for _ in lengths]
     files = [t.file(), t.file()]
     for directory, length in zip(directories, lengths):
-        between = b"n" * (length - 2)
-        t.name(directory, b"a" + between + b"z", files[0])
-        t.name(directory, b"b" + between + b"a", files[1])
+        t.name(directory, b"a" + b"z" * (length - 1), files[0])
+        t.name(directory, b"b" + b"a" * (length - 1), files[1])
     return t.mount(top).image()
 
 
