@@ -40,9 +40,9 @@ extern "C" {
  * them that grows with every version, to be compared.
  */
 #define VENTOLAIRE_VERSION_MAJOR 0
-#define VENTOLAIRE_VERSION_MINOR 2
+#define VENTOLAIRE_VERSION_MINOR 3
 #define VENTOLAIRE_VERSION_PATCH 0
-#define VENTOLAIRE_VERSION 2000 /* major * 1,000,000 + minor * 1,000 + patch */
+#define VENTOLAIRE_VERSION 3000 /* major * 1,000,000 + minor * 1,000 + patch */
 
 /*
  * How to resolve: the bytes of an open_how, little-endian.
@@ -84,7 +84,7 @@ static inline void ventolaire_how(uint8_t how[VENTOLAIRE_HOW_SIZE],
 /* Why a path is refused: Linux's numbers, whatever the host's are. */
 #define VENTOLAIRE_ENOENT 2        /* empty path, no such name, or mark broken */
 #define VENTOLAIRE_E2BIG 7         /* open_how too long, or something behind it */
-#define VENTOLAIRE_EBADF 9         /* no handle's place; a descriptor not open */
+#define VENTOLAIRE_EBADF 9         /* no such place, node or open descriptor */
 #define VENTOLAIRE_EXDEV 18        /* leaves mount or handle; magic link in IN_ROOT */
 #define VENTOLAIRE_ENOTDIR 20      /* not a directory where one is needed */
 #define VENTOLAIRE_EINVAL 22       /* open_how not valid, or zero byte in the path */
