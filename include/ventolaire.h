@@ -40,9 +40,9 @@ extern "C" {
  * them that grows with every version, to be compared.
  */
 #define VENTOLAIRE_VERSION_MAJOR 0
-#define VENTOLAIRE_VERSION_MINOR 3
+#define VENTOLAIRE_VERSION_MINOR 4
 #define VENTOLAIRE_VERSION_PATCH 0
-#define VENTOLAIRE_VERSION 3000 /* major * 1,000,000 + minor * 1,000 + patch */
+#define VENTOLAIRE_VERSION 4000 /* major * 1,000,000 + minor * 1,000 + patch */
 
 /*
  * How to resolve: the bytes of an open_how, little-endian.
@@ -135,6 +135,13 @@ size_t ventolaire_check(const uint8_t *image, size_t image_len,
 /*
  * Resolves `path` from the directory `node` as seen in `mount`, the handle. A
  * marked handle (mark) is never left, whatever `how` says.
+ *
+ * The handle is checked before the walk: EBADF if there is no such mount or node;
+ * ENOTDIR if the node is not a directory; EBADF if it is not under the root of the
+ * mount, or if another mount covers it there. It is not checked where it has no
+ * use: for a path that starts with "/", without the mark and without
+ * VENTOLAIRE_RESOLVE_IN_ROOT. Then any numbers do; VENTOLAIRE_RESOLVE_BENEATH
+ * refuses such a path with EXDEV, whatever they are.
  *
  * The image is checked first, at every call.
  */
@@ -263,9 +270,11 @@ enum {
  * handle. The place found gets the lowest descriptor that is free, with the mark
  * if `mark` asks for it and without it else, whatever the mark of `number`.
  *
- * Refused in this order: EBADF for a number that is not open; EINVAL if the mark
- * is asked without VENTOLAIRE_O_DIRECTORY; what ventolaire_resolve refuses;
- * EMFILE if all descriptors are open.
+ * Refused in this order: EBADF for a number that is not open, whatever the path;
+ * EINVAL if the mark is asked without VENTOLAIRE_O_DIRECTORY; what
+ * ventolaire_resolve refuses; EMFILE if all descriptors are open. So a number that
+ * is open on a file, or on a covered directory without the mark, opens absolute
+ * paths alone.
  */
 size_t ventolaire_open(const uint8_t *image, size_t image_len,
                        ventolaire_descriptors *descriptors,

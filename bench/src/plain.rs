@@ -501,6 +501,20 @@ impl<'a> Table<'a> {
         }
         Ok(place)
     }
+
+    /// The handle's place, checked unless the call has no use for it. The top stands for it
+    /// then: an Escape there is forbidden by nothing, since BENEATH has refused Start.
+    fn handle_of(&self, handle: Handle, path: &[u8], how: How) -> Result<Place, Errno> {
+        if path.starts_with(b"/") && how.resolve & IN_ROOT == 0 && !handle.mark {
+            return Ok(self.top());
+        }
+        self.check_handle(handle)
+    }
+
+    /// Mount 0's root.
+    fn top(&self) -> Place {
+        Place { mount: 0, node: self.mount(0).root }
+    }
 }
 
 /// Looks a name up in the directory of a node's number, the table checked first: its
@@ -540,8 +554,8 @@ pub fn resolve_checked(
     let how = How::read(how)?;
     check_path(path).map_err(Refusal::before_walk)?;
     let table = Table::open(image);
-    let place = table.check_handle(handle).map_err(Refusal::before_walk)?;
-    let top = Place { mount: 0, node: table.mount(0).root };
+    let place = table.handle_of(handle, path, how).map_err(Refusal::before_walk)?;
+    let top = table.top();
 
     let mut walk = Walk {
         table,

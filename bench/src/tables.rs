@@ -93,6 +93,21 @@ const CASES: &[Case] = &[
             ..found(BENCH_TREE, LAB, "cal/loop", (0, 0), 0, 0)
         },
     },
+    Case {
+        name: "walk-root",
+        about: "/lab in the bench tree, an absolute path",
+        build: || found(BENCH_TREE, LAB, "/lab", (0, 1), 1, 0),
+    },
+    Case {
+        name: "walk-root-tare",
+        about: "/lab/cal/tare in the bench tree",
+        build: || found(BENCH_TREE, LAB, "/lab/cal/tare", (0, 3), 3, 0),
+    },
+    Case {
+        name: "walk-root-far",
+        about: "/tare from a handle 3,000 directories down, beside 255 mounts",
+        build: walk_root_far,
+    },
     Case { name: "walk-deep", about: "1,000 components down", build: walk_deep },
     Case { name: "walk-dotdot", about: "500 times d/..", build: walk_dotdot },
     Case {
@@ -265,6 +280,18 @@ fn magic_links() -> Tree {
         tree.magic(i % 256, from_end(i / 256));
     }
     tree
+}
+
+/// To check this handle takes the whole chain and all mounts; the path has no use for it.
+fn walk_root_far() -> Input {
+    let (mut tree, top) = Tree::mounted();
+    let tare = tree.named_file(top, "tare");
+    let name = tree.text(b"d");
+    let chain = tree.chain(top, &name, 3_255, 1);
+    for &point in &chain[3_000..] {
+        tree.mount(top, 0, point);
+    }
+    found(&tree, chain[2_999] as u64, "/tare", (0, tare), 1, 0)
 }
 
 fn walk_deep() -> Input {

@@ -39,6 +39,43 @@ fn one_path_has_one_answer() {
     }
 }
 
+/// "with an absolute path, no IN_ROOT and no mark, the handle isn't checked".
+#[test]
+fn an_absolute_path_wants_no_good_handle() {
+    let image = Named::file(IMAGE);
+    // Out of range by far, a file, covered, and outside of its mount's root.
+    let handles = [
+        ("9:99", "EBADF (9)"),
+        ("18446744073709551615:18446744073709551615", "EBADF (9)"),
+        ("0:3", "ENOTDIR (20)"),
+        ("0:7", "EBADF (9)"),
+        ("1:1", "EBADF (9)"),
+    ];
+    for (handle, refused) in handles {
+        let rows: &[(&[&str], &str)] = &[
+            (&["/lab"], "0:1; 1 component, 0 links"),
+            (&["//lab/pool/../cal/abs"], "0:3; 8 components, 1 link"),
+            (&["/none"], "ENOENT (2); 1 component, 0 links"),
+            (&["/lab", "--resolve", "NO_XDEV"], "0:1; 1 component, 0 links"),
+            (&["/lab", "--resolve", "BENEATH"], "EXDEV (18); 0 components, 0 links"),
+            (&["/lab", "--resolve", "IN_ROOT"], refused),
+            (&["/lab", "--mark"], refused),
+            (&["/lab", "--mark", "--resolve", "BENEATH"], refused),
+            (&["lab"], refused),
+            (&["lab", "--resolve", "BENEATH"], refused),
+        ];
+        for (arguments, text) in rows {
+            let (_, line) = image.resolve(&[arguments, &["--handle", handle][..]].concat());
+            // A refused handle is refused before the walk.
+            let counts = if *text == refused { "; 0 components, 0 links" } else { "" };
+            assert_eq!(line, format!("{text}{counts}\n"), "{handle} {arguments:?}");
+        }
+        // In one call, each path for itself.
+        let both = format!("/\t0:0; 0 components, 0 links\n.\t{refused}; 0 components, 0 links\n");
+        assert_eq!(image.resolve(&["/", ".", "--handle", handle]), (1, both));
+    }
+}
+
 /// Bits are named or numbered, and open_hows given as bytes.
 #[test]
 fn open_hows_may_be_wrong() {

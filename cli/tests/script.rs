@@ -56,6 +56,7 @@ fn refusals_are_told_in_words() {
             "EBADF (9), there is no descriptor above 63; 0 components, 0 links",
         ),
         ("open 5 '' --how 00", "EBADF (9), descriptor 5 is not open; 0 components, 0 links"),
+        ("open 5 /lab", "EBADF (9), descriptor 5 is not open; 0 components, 0 links"),
         ("open 0 lab --mark", "EINVAL (22), the mark wants O_DIRECTORY; 0 components, 0 links"),
         ("open 0 lab --mark --how 00", "EINVAL (22); 0 components, 0 links"),
         ("open 0 lab --mark --how 0000000000000000", "EINVAL (22); 0 components, 0 links"),
@@ -66,6 +67,12 @@ fn refusals_are_told_in_words() {
         ("open 0 lab/cal/tare", "1 = 0:3; 3 components, 0 links"),
         ("mark 1", "ENOTTY (25), descriptor 1 is no directory; 0 components, 0 links"),
         ("open 1 .", "ENOTDIR (20), descriptor 1 is no directory; 0 components, 0 links"),
+        (
+            "open 1 /lab --resolve in_root",
+            "ENOTDIR (20), descriptor 1 is no directory; 0 components, 0 links",
+        ),
+        ("open 1 /lab --resolve beneath", "EXDEV (18); 0 components, 0 links"),
+        ("open 1 /lab", "2 = 0:1; 1 component, 0 links"),
         ("open 0 lab/cal/tare/", "ENOTDIR (20); 3 components, 0 links"),
     ]);
 }
@@ -76,10 +83,12 @@ fn a_covered_directory_is_told() {
     // The node of the target of "fd": pool.
     image[20 + 12 * 10 + 8] = 7;
     let image = Named::file(&image);
-    let text = "1 = 0:7; 3 components, 1 link\n\
-        EBADF (9), descriptor 1 is a directory that a mount covers; 0 components, 0 links\n";
-    let answered = answer_to(b"open 0 lab/cal/fd\nopen 1 .\n", ["script", image.path()]);
-    assert_eq!(answered, (1, text.into()));
+    let covered =
+        "EBADF (9), descriptor 1 is a directory that a mount covers; 0 components, 0 links\n";
+    let calls = b"open 0 lab/cal/fd\nopen 1 .\nopen 1 /lab\nmark 1\nopen 1 /lab\n";
+    let opened = ["1 = 0:7; 3 components, 1 link\n", "2 = 0:1; 1 component, 0 links\ndone\n"];
+    let text = [opened[0], covered, opened[1], covered].concat();
+    assert_eq!(answer_to(calls, ["script", image.path()]), (1, text));
 }
 
 #[test]

@@ -172,21 +172,8 @@ call("handle-above-mount-6", ".", refused(EBADF), at=(6, 0))
 call("handle-of-mount-1-in-mount-6", ".", refused(EBADF), at=(6, 4))
 over(BENCH, "bench")
 
-says("3.7, 7.5", 'A place is covered if it is the point, in the parent mount, of a mount other than mount 0. It is checked for every path.')
+says("3.7", 'A place is covered if it is the point, in the parent mount, of a mount other than mount 0.')
 call("handle-covered", ".", refused(EBADF), at=(0, 7))
-call("handle-root-absolute", "/", found(0, 0, 0, 0), at=(0, 0))
-call("handle-mount-2-absolute", "/", refused(EBADF), at=(2, 0))
-call("handle-mount-65536-absolute", "/", refused(EBADF), at=(65536, 0))
-call("handle-mount-2-to-32-absolute", "/", refused(EBADF), at=(2**32, 0))
-call("handle-node-12-absolute", "/", refused(EBADF), at=(0, 12))
-call("handle-node-65536-absolute", "/", refused(EBADF), at=(0, 65536))
-call("handle-node-2-to-32-absolute", "/", refused(EBADF), at=(0, 2**32))
-call("handle-outside-mount-0-absolute", "/", refused(EBADF), at=(0, 8))
-call("handle-above-mount-1-absolute", "/", refused(EBADF), at=(1, 0))
-call("handle-covered-absolute", "/", refused(EBADF), at=(0, 7))
-call("handle-bad-absolute", "/lab/cal", refused(EBADF), at=(0, 12))
-call("handle-file-absolute", "/", refused(ENOTDIR), at=(0, 3))
-call("handle-covered-mark", "/", refused(EBADF), at=(0, 7), mark=True)
 call("handle-below-covered", ".", found(0, 15, 1, 0), at=(0, 15), image=trees.mounted())
 over(LAYERED, "layered")
 call("handle-covered-in-mount-2", ".", refused(EBADF), at=(2, 5))
@@ -195,7 +182,106 @@ call("handle-not-covered-in-mount-5", ".", found(5, 5, 1, 0), at=(5, 5))
 over(BENCH, "bench")
 
 # ---------------------------------------------------------------------------------------------------------------------------------
-group("The order of refusals", "The bench tree. Each call has two faults or more, and the earlier is answered.")
+group("The handle of an absolute path", "The bench tree (12 nodes, 2 mounts) if no other is named.")
+# What refuses a handle where it is checked.
+BAD_HANDLES = {
+    "mount-2": ((2, 0), EBADF),
+    "mount-65536": ((65536, 0), EBADF),
+    "mount-2-to-32": ((2**32, 0), EBADF),
+    "node-12": ((0, 12), EBADF),
+    "node-65536": ((0, 65536), EBADF),
+    "node-2-to-32": ((0, 2**32), EBADF),
+    "both-2-to-64-less-1": ((2**64 - 1, 2**64 - 1), EBADF),
+    "outside-mount-0": ((0, 8), EBADF),
+    "above-mount-1": ((1, 0), EBADF),
+    "covered": ((0, 7), EBADF),
+    "file": ((0, 3), ENOTDIR),
+    "link": ((0, 4), ENOTDIR),
+    "magic": ((0, 10), ENOTDIR),
+}
+SCOPED = ["mount-2-to-32", "node-12", "both-2-to-64-less-1", "outside-mount-0", "covered", "file", "magic"]
+OTHERS = NO_XDEV | NO_MAGICLINKS | NO_SYMLINKS
+says("7.5", "with an absolute path, no IN_ROOT and no mark, the handle isn't checked.")
+call("handle-root-absolute", "/", found(0, 0, 0, 0), at=(0, 0))
+for label, (at, _) in BAD_HANDLES.items():
+    call(f"handle-{label}-absolute", "/", found(0, 0, 0, 0), at=at)
+call("handle-bad-absolute", "/lab/cal", found(0, 2, 2, 0), at=(0, 12))
+# The numbers' lower parts are those of a good handle in the first two.
+for label, at, path, resolve, answer in [
+    ("dotdot", (2**32 + 1, 8), "/..", 0, found(0, 0, 1, 0)),
+    ("others", (0, 2**32 + 1), "/lab/cal", OTHERS, found(0, 2, 2, 0)),
+    ("slashes", (0, 3), "//", NO_XDEV, found(0, 0, 0, 0)),
+    ("file", (1, 3), "/lab/cal/tare", 0, found(0, 3, 3, 0)),
+    ("file-slash", (0, 10), "/lab/cal/tare/", 0, refused(ENOTDIR, 3, 0)),
+    ("file-on", (0, 3), "/lab/cal/tare/x", 0, refused(ENOTDIR, 3, 0)),
+    ("absent", (0, 65535), "/nope", 0, refused(ENOENT, 1, 0)),
+    ("mount", (65535, 0), "/lab/pool/run", 0, found(1, 9, 3, 0)),
+    ("mount-no-xdev", (0, 7), "/lab/pool/run", NO_XDEV, refused(EXDEV, 2, 0)),
+    ("jump", (0, 11), "/lab/cal/abs", 0, found(0, 3, 6, 1)),
+    ("jump-no-xdev", (1, 1), "/lab/cal/abs", NO_XDEV, found(0, 3, 6, 1)),
+    ("jump-no-symlinks", (0, 5), "/lab/cal/abs", NO_SYMLINKS, refused(ELOOP, 3, 0)),
+    ("up", (2, 12), "/lab/cal/up/lab", NO_MAGICLINKS, found(0, 1, 6, 1)),
+    ("up-no-symlinks", (0, 4), "/lab/cal/up/lab", NO_SYMLINKS, refused(ELOOP, 3, 0)),
+    ("magic", (0, 10), "/lab/cal/fd", NO_XDEV, found(0, 3, 3, 1)),
+    ("magic-no-magiclinks", (0, 10), "/lab/cal/fd", NO_MAGICLINKS, refused(ELOOP, 3, 0)),
+    ("loop", (0, 6), "/lab/cal/loop", 0, refused(ELOOP, 43, 40)),
+]:
+    call(f"unchecked-{label}", path, answer, at=at, resolve=resolve)
+call("unchecked-nofollow", "/lab/cal/up", found(0, 4, 3, 0), at=(0, 4), flags=O_NOFOLLOW | O_PATH)
+call("unchecked-required", "/lab/cal/tare", refused(ENOTDIR, 3, 0), at=(0, 12), flags=O_DIRECTORY)
+
+says("7.5, 9.2", "The root is the handle under IN_ROOT, else mount 0's root. .. with an absolute path, no IN_ROOT and no mark, the handle isn't checked.")
+over(trees.inner(), "inner")
+call("unchecked-inner-file", "/", found(0, 2, 0, 0), at=(0, 0))
+call("unchecked-inner-above", "/e", found(0, 3, 1, 0), at=(0, 1))
+over(LAYERED, "layered")
+call("unchecked-layered-covered", "/a/g/d", found(3, 7, 3, 0), at=(2, 5))
+call("unchecked-layered-above", "/in/..", found(3, 7, 2, 1), at=(6, 0))
+over(CHAINS, "chains")
+call("unchecked-chains", "/t1", found(0, 1, 41, 40), at=(1, 0))
+over(BENCH, "bench")
+
+says("7.5", "A marked handle is still checked first,")
+for label, (at, errno) in BAD_HANDLES.items():
+    call(f"handle-{label}-mark", "/", refused(errno), at=at, mark=True)
+call("handle-file-mark-beneath", "/lab", refused(ENOTDIR), at=(0, 3), mark=True, resolve=BENEATH)
+call("handle-covered-mark-in-root", "/", refused(EBADF), at=(0, 7), mark=True, resolve=IN_ROOT)
+
+says("7.5", "With BENEATH, no mark and no refusal before the walk, such a path meets EXDEV at Start whatever the handle is.")
+for label in SCOPED:
+    call(f"handle-{label}-beneath", "/", refused(EXDEV, 0, 0), at=BAD_HANDLES[label][0], resolve=BENEATH)
+call("handle-node-12-beneath-and-more", "/nope", refused(EXDEV, 0, 0), at=(0, 12), resolve=BENEATH | OTHERS)
+
+says("7.4, 7.5", "Demand 1 then refuses a bad handle where the handle is checked,")
+for label in SCOPED:
+    at, errno = BAD_HANDLES[label]
+    call(f"handle-{label}-in-root", "/", refused(errno), at=at, resolve=IN_ROOT)
+call("handle-node-12-in-root-and-more", "/lab", refused(EBADF), at=(0, 12), resolve=IN_ROOT | OTHERS)
+for label, path, mark, resolve in [
+    ("mount-2", "./", False, NO_XDEV),
+    ("node-12", "..", True, 0),
+    ("outside-mount-0", "run", False, OTHERS),
+    ("covered", ".", False, IN_ROOT),
+    ("file", "cal", False, BENEATH),
+    ("link", ".//", False, NO_SYMLINKS),
+    ("magic", "./lab", False, NO_MAGICLINKS),
+]:
+    at, errno = BAD_HANDLES[label]
+    call(f"handle-{label}-relative", path, refused(errno), at=at, mark=mark, resolve=resolve)
+
+says("7.5, 10.3", "| Start, Escape | mark ENOENT; BENEATH EXDEV |")
+call("unforbidden-escape", "/lab/..", found(0, 0, 2, 0))
+call("unforbidden-no-escape", "/lab/..", found(0, 0, 2, 0), at=(7, 7))
+call("unforbidden-escape-at-root", "/..", found(0, 0, 1, 0), at=(0, 0))
+call("unforbidden-escape-and-climb", "/lab/pool/..", found(0, 1, 3, 0), at=(1, 8))
+call("unforbidden-climb-past-covered", "/lab/pool/..", found(0, 1, 3, 0), at=(0, 7))
+over(trees.mounted(), "mounted")
+call("unforbidden-escape-bad-handle", "/under/..", found(0, 0, 2, 1), at=(0, 1))
+call("unforbidden-escape-bad-handle-no-xdev", "/under/..", found(0, 0, 2, 1), at=(0, 1), resolve=NO_XDEV)
+over(BENCH, "bench")
+
+# ---------------------------------------------------------------------------------------------------------------------------------
+group("The order of refusals", "The bench tree. Each call has two faults or more, and the earlier is answered; a handle that isn't checked is none.")
 says("7.1", "Order: table, open_how length (too short, too long, tail), flags, resolve, both scopes, mode, path too long, path empty, zero byte, handle, walk.")
 LONG = "n" * 4096
 SHORT = bytes([1]) + bytes(22)
@@ -228,11 +314,26 @@ call("order-zero-handle-kind", b"\0", refused(EINVAL), at=(0, 3), shown="a zero 
 call("order-zero-walk", b"/\0", refused(EINVAL), resolve=BENEATH, shown="a zero byte, Start under BENEATH")
 call("order-range-kind", "cal", refused(EBADF), at=(2, 3), shown="a mount out of range, a file")
 call("order-kind-under", "cal", refused(ENOTDIR), at=(1, 3), shown="a file that is not under the mount's root")
-call("order-kind-walk", "/", refused(ENOTDIR), at=(0, 3), resolve=BENEATH, shown="a file as the handle, Start under BENEATH")
 call("order-under-walk", "/", refused(EBADF), at=(1, 1), mark=True, shown="a handle outside its mount, marked, Start")
-call("order-covered-walk", "/", refused(EBADF), at=(0, 7), resolve=BENEATH, shown="a covered handle, Start under BENEATH")
 call("order-range-walk", "..", refused(EBADF), at=(0, 12), resolve=BENEATH, shown="a handle out of range, `..` under BENEATH")
 call("order-covered-enoent", "nope", refused(EBADF), at=(0, 7), shown="a covered handle, an absent name")
+
+says("7.1, 7.5", "with an absolute path, no IN_ROOT and no mark, the handle isn't checked. .. With BENEATH, no mark and no refusal before the walk, such a path meets EXDEV at Start")
+call("order-kind-walk", "/", refused(EXDEV, 0, 0), at=(0, 3), resolve=BENEATH, shown="a file as the handle, Start under BENEATH")
+call("order-covered-walk", "/", refused(EXDEV, 0, 0), at=(0, 7), resolve=BENEATH, shown="a covered handle, Start under BENEATH")
+for label, answer, path, fault, shown in [
+    ("table", refused(EUCLEAN), "/", {"image": BAD_TABLE}, "`/`, a refused table"),
+    ("short", refused(EINVAL), "/", {"how": bytes(23)}, "`/`, an open_how of 23 bytes"),
+    ("long", refused(E2BIG), "/", {"how": bytes(4097)}, "`/`, an open_how of 4,097 bytes"),
+    ("flags", refused(EINVAL, detail=63), "/", {"flags": 1 << 63, "resolve": BENEATH}, None),
+    ("resolve", refused(EINVAL, detail=69), "/", {"resolve": 1 << 5 | BENEATH}, None),
+    ("scopes", refused(EINVAL), "/", {"resolve": BENEATH | IN_ROOT}, None),
+    ("mode", refused(EINVAL), "/", {"how": open_how(0, BENEATH, 1)}, "`/`, mode 1, BENEATH"),
+    ("path", refused(ENAMETOOLONG), "/" * 4096, {"resolve": BENEATH}, "4,096 slashes"),
+    ("zero", refused(EINVAL), b"/\0", {}, None),
+    ("zero-beneath", refused(EINVAL), b"/\0", {"resolve": BENEATH}, None),
+]:
+    call(f"order-{label}-absolute", path, answer, at=(9, 99), shown=shown, **fault)
 
 # ---------------------------------------------------------------------------------------------------------------------------------
 group("Limits of the walk", "Over `chains` and `longest`, handle (0,0).")

@@ -111,6 +111,32 @@ void require_unchanged(const struct lent *lent)
             "the open_how was changed");
 }
 
+void answer_to(struct question question, const struct lent *lent, bool accepted,
+               size_t too_short, uint64_t answer[OUT_ROOM])
+{
+    uint64_t again[OUT_ROOM];
+    prepare(answer);
+    require(question.ask(lent, question.about, false, answer, question.len) == question.len,
+            "wrong count of an answer");
+    require_untouched(answer, question.len);
+    require_unchanged(lent);
+
+    prepare(again);
+    require(question.ask(lent, question.about, accepted, again, OUT_ROOM) == question.len,
+            "wrong count with more room, or over an accepted table");
+    require(memcmp(answer, again, sizeof again) == 0,
+            "another answer with more room, or over an accepted table");
+    require_unchanged(lent);
+
+    prepare(again);
+    uint64_t *out = too_short == 0 ? NULL : again;
+    require(question.ask(lent, question.about, false, out, too_short) == 0
+                && (!accepted || question.ask(lent, question.about, true, out, too_short) == 0),
+            "an answer was written into too little room");
+    require_untouched(again, 0);
+    require_unchanged(lent);
+}
+
 uint64_t number_at(const uint8_t *bytes, size_t len)
 {
     uint64_t number = 0;
@@ -220,46 +246,45 @@ struct handle {
     bool mark;
 };
 
-static size_t resolve(const struct lent *lent, struct handle handle, bool accepted,
+static size_t resolve(const struct lent *lent, const void *about, bool accepted,
                       uint64_t *out, size_t out_len)
 {
+    const struct handle *handle = about;
     return (accepted ? ventolaire_resolve_accepted : ventolaire_resolve)(
-        lent->image, lent->image_len, handle.mount, handle.node, handle.mark,
+        lent->image, lent->image_len, handle->mount, handle->node, handle->mark,
         lent->path, lent->path_len, lent->how, lent->how_len, out, out_len);
+}
+
+/* Where the path is absolute, IN_ROOT is not set and the handle has no mark, any other
+ * handle without one gives the same answer. An open_how that is too short has no IN_ROOT. */
+static void require_unchecked(const struct lent *lent, const struct handle *handle, bool accepted,
+                              const uint64_t *answer)
+{
+    bool in_root = lent->how_len >= VENTOLAIRE_HOW_SIZE
+                   && (number_at(lent->how + 16, 8) & VENTOLAIRE_RESOLVE_IN_ROOT) != 0;
+    if (lent->path_len == 0 || lent->path[0] != '/' || in_root || handle->mark)
+        return;
+    /* An input's numbers are below 2^16, so these are out of range. */
+    struct handle other = {~handle->mount, ~handle->node, false};
+    uint64_t its[VENTOLAIRE_ANSWER_LEN];
+    resolve(lent, &other, accepted, its, VENTOLAIRE_ANSWER_LEN);
+    require(memcmp(answer, its, sizeof its) == 0,
+            "another answer with another handle, and the handle is not to be checked");
 }
 
 static void run_call(const struct lent *lent, struct handle handle, bool accepted,
                      size_t too_short)
 {
-    uint64_t answer[OUT_ROOM], again[OUT_ROOM];
-    prepare(answer);
-    require(resolve(lent, handle, false, answer, VENTOLAIRE_ANSWER_LEN) == VENTOLAIRE_ANSWER_LEN,
-            "wrong count from resolve");
-    require_untouched(answer, VENTOLAIRE_ANSWER_LEN);
-    require_unchanged(lent);
+    uint64_t answer[OUT_ROOM];
+    struct question question = {resolve, &handle, VENTOLAIRE_ANSWER_LEN};
+    answer_to(question, lent, accepted, too_short, answer);
     require_answer(answer);
     require((answer[VENTOLAIRE_ANSWER_ERRNO] == VENTOLAIRE_EUCLEAN) == !accepted,
             "check and resolve judge the table differently");
     if (answer[VENTOLAIRE_ANSWER_ERRNO] == 0)
         require_place(answer, lent);
 
-    /* More room than needed, and no table check if the table is known to be
-     * accepted: the same answer. */
-    prepare(again);
-    require(resolve(lent, handle, accepted, again, OUT_ROOM) == VENTOLAIRE_ANSWER_LEN,
-            "wrong count with more room, or over an accepted table");
-    require(memcmp(answer, again, sizeof answer) == 0,
-            "another answer with more room, or over an accepted table");
-    require_unchanged(lent);
-
-    /* Too little room: nothing happens. */
-    prepare(again);
-    uint64_t *out = too_short == 0 ? NULL : again;
-    require(resolve(lent, handle, false, out, too_short) == 0
-                && (!accepted || resolve(lent, handle, true, out, too_short) == 0),
-            "resolve wrote into too little room");
-    require_untouched(again, 0);
-    require_unchanged(lent);
+    require_unchecked(lent, &handle, accepted, answer);
     require_errnos((handle.mount + handle.node) % (VENTOLAIRE_ERRNOS_LEN + 2));
     note_answer(0, answer);
 }

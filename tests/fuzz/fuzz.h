@@ -41,6 +41,20 @@ void require_unchanged(const struct lent *lent);
 void prepare(uint64_t out[OUT_ROOM]);
 void require_untouched(const uint64_t out[OUT_ROOM], size_t from);
 
+/* A function of the library that answers with `len` numbers, and what it is asked about
+ * besides what is lent: a handle, or a directory. */
+struct question {
+    size_t (*ask)(const struct lent *lent, const void *about, bool accepted,
+                  uint64_t *out, size_t out_len);
+    const void *about;
+    size_t len;
+};
+
+/* Its answer, asked for with just enough room; once more with more room and, where the
+ * table is accepted, without its check; and with too little room. */
+void answer_to(struct question question, const struct lent *lent, bool accepted,
+               size_t too_short, uint64_t answer[OUT_ROOM]);
+
 uint64_t number_at(const uint8_t *bytes, size_t len);
 
 /* Cuts up to `len` bytes off the front. */

@@ -91,11 +91,12 @@ static void expect(const struct lent *lent, uint64_t node, bool accepted, uint64
         }
 }
 
-static size_t ask(const struct lent *lent, uint64_t node, bool accepted,
-                  uint64_t *out, size_t out_len)
+static size_t look_up(const struct lent *lent, const void *about, bool accepted,
+                      uint64_t *out, size_t out_len)
 {
+    const uint64_t *node = about;
     return (accepted ? ventolaire_lookup_accepted : ventolaire_lookup)(
-        lent->image, lent->image_len, node, lent->path, lent->path_len, out, out_len);
+        lent->image, lent->image_len, *node, lent->path, lent->path_len, out, out_len);
 }
 
 /* Whether the name can be a component of a path. */
@@ -145,35 +146,14 @@ static void note_lookup(const uint64_t *answer, uint64_t count)
     note(kind * 16 + digits(count));
 }
 
-/* One lookup: with just enough room, once more with more room and, where the table is
- * accepted, without its check, and with too little room. */
 void run_lookup(const struct lent *lent, const uint8_t *head, bool accepted, size_t too_short)
 {
     uint64_t node = directory_of(head);
-    uint64_t expected[VENTOLAIRE_LOOKUP_LEN], answer[OUT_ROOM], again[OUT_ROOM];
+    uint64_t expected[VENTOLAIRE_LOOKUP_LEN], answer[OUT_ROOM];
+    struct question question = {look_up, &node, VENTOLAIRE_LOOKUP_LEN};
     expect(lent, node, accepted, expected);
-
-    prepare(answer);
-    require(ask(lent, node, false, answer, VENTOLAIRE_LOOKUP_LEN) == VENTOLAIRE_LOOKUP_LEN,
-            "wrong count from lookup");
-    require_untouched(answer, VENTOLAIRE_LOOKUP_LEN);
-    require_unchanged(lent);
+    answer_to(question, lent, accepted, too_short, answer);
     require_expected(answer, expected);
-
-    prepare(again);
-    require(ask(lent, node, accepted, again, OUT_ROOM) == VENTOLAIRE_LOOKUP_LEN,
-            "wrong count with more room, or over an accepted table");
-    require(memcmp(answer, again, sizeof answer) == 0,
-            "another answer with more room, or over an accepted table");
-    require_unchanged(lent);
-
-    prepare(again);
-    uint64_t *out = too_short == 0 ? NULL : again;
-    require(ask(lent, node, false, out, too_short) == 0
-                && (!accepted || ask(lent, node, true, out, too_short) == 0),
-            "lookup wrote into too little room");
-    require_untouched(again, 0);
-    require_unchanged(lent);
 
     uint64_t error = answer[VENTOLAIRE_LOOKUP_ERRNO];
     bool searched = error == 0 || error == VENTOLAIRE_ENOENT;

@@ -25,6 +25,10 @@ size_t __real_ventolaire_lookup(const uint8_t *, size_t, uint64_t, const uint8_t
 size_t __real_ventolaire_lookup_accepted(const uint8_t *, size_t, uint64_t,
                                          const uint8_t *, size_t, uint64_t *, size_t);
 
+typedef size_t resolver(const uint8_t *, size_t, uint64_t, uint64_t, bool,
+                        const uint8_t *, size_t, const uint8_t *, size_t, uint64_t *, size_t);
+resolver __real_ventolaire_resolve, __real_ventolaire_resolve_accepted;
+
 static bool is_done(size_t written, const uint64_t *out)
 {
     return written != 0 && out[VENTOLAIRE_REPLY_ERRNO] == 0;
@@ -207,4 +211,53 @@ size_t __wrap_ventolaire_lookup_accepted(const uint8_t *image, size_t image_len,
     if (FAULT == 34 && written != 0) /* no count without the check */
         out[VENTOLAIRE_LOOKUP_COMPARED] = 0;
     return written;
+}
+
+/* What refuses a handle that is checked whatever the path, over an accepted table. */
+static uint64_t refused_by(const uint8_t *image, uint64_t node)
+{
+    bool in_range = node < (image[4] | (uint64_t)image[5] << 8);
+    if (FAULT == 35 && !in_range) /* by its range */
+        return VENTOLAIRE_EBADF;
+    if (FAULT == 36 && in_range && image[20 + 12 * node] != 1) /* by its kind */
+        return VENTOLAIRE_ENOTDIR;
+    return 0;
+}
+
+static size_t resolve_by(resolver *real, const uint8_t *image, size_t image_len,
+                         uint64_t mount, uint64_t node, bool mark,
+                         const uint8_t *path, size_t path_len,
+                         const uint8_t *how, size_t how_len, uint64_t *out, size_t out_len)
+{
+    size_t passed = 0;
+    if (FAULT == 37 && path_len > 1 && path[0] == '/') /* an absolute path begins at the handle */
+        passed = 1;
+    size_t written = real(image, image_len, mount, node, mark, path + passed, path_len - passed,
+                          how, how_len, out, out_len);
+    bool accepted = written != 0 && out[VENTOLAIRE_ANSWER_ERRNO] != VENTOLAIRE_EUCLEAN;
+    uint64_t error = accepted ? refused_by(image, node) : 0;
+    if (error != 0)
+        memcpy(out, (uint64_t[VENTOLAIRE_ANSWER_LEN]){error, VENTOLAIRE_NO_DETAIL},
+               sizeof(uint64_t[VENTOLAIRE_ANSWER_LEN]));
+    return written;
+}
+
+size_t __wrap_ventolaire_resolve(const uint8_t *image, size_t image_len,
+                                 uint64_t mount, uint64_t node, bool mark,
+                                 const uint8_t *path, size_t path_len,
+                                 const uint8_t *how, size_t how_len,
+                                 uint64_t *out, size_t out_len)
+{
+    return resolve_by(__real_ventolaire_resolve, image, image_len, mount, node, mark,
+                      path, path_len, how, how_len, out, out_len);
+}
+
+size_t __wrap_ventolaire_resolve_accepted(const uint8_t *image, size_t image_len,
+                                          uint64_t mount, uint64_t node, bool mark,
+                                          const uint8_t *path, size_t path_len,
+                                          const uint8_t *how, size_t how_len,
+                                          uint64_t *out, size_t out_len)
+{
+    return resolve_by(__real_ventolaire_resolve_accepted, image, image_len, mount, node, mark,
+                      path, path_len, how, how_len, out, out_len);
 }

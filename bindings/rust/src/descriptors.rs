@@ -108,8 +108,10 @@ impl<'a> Descriptors<'a> {
     /// Opens a path from a descriptor, without the mark, as [`Table::resolve`] resolves it from
     /// a handle.
     ///
-    /// Refused in this order: `EBADF` if `number` is not open; what the resolver refuses;
-    /// `EMFILE` if all descriptors are open.
+    /// Refused in this order: `EBADF` if `number` is not open, whatever the path; what the
+    /// resolver refuses; `EMFILE` if all descriptors are open. So a number that is open on a file,
+    /// or on a covered directory without the mark, opens absolute paths alone
+    /// ([`Handle`](crate::Handle)).
     ///
     /// ```
     /// use ventolaire::{bench_tree, Errno, OpenHow, Resolve, Table};
@@ -120,7 +122,7 @@ impl<'a> Descriptors<'a> {
     ///
     /// let refusal = descriptors.open(1, "pool/run", Resolve::NO_XDEV).unwrap_err();
     /// assert_eq!(refusal.to_string(), "EXDEV (18); 1 component, 0 links");
-    /// assert_eq!(descriptors.open(2, "", OpenHow::new()).unwrap_err().errno, Errno::EBADF);
+    /// assert_eq!(descriptors.open(2, "/lab", OpenHow::new()).unwrap_err().errno, Errno::EBADF);
     /// # Ok::<(), Box<dyn std::error::Error>>(())
     /// ```
     pub fn open(

@@ -25,9 +25,10 @@ pub enum Errno {
     /// The path is empty, a name is not there, or the handle's mark is broken.
     ENOENT,
     /// The handle is not a place that a handle can have, the descriptor is not open, or there is
-    /// no node of that number to look a name up in.
+    /// no node of that number to look a name up in. [`Handle`](crate::Handle) says when a handle
+    /// is checked.
     EBADF,
-    /// Not a directory where one is needed.
+    /// Not a directory where one is needed, such as a handle that is checked.
     ENOTDIR,
     /// Over 40 links, or a link that is not to be followed.
     ELOOP,

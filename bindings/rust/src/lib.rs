@@ -44,7 +44,8 @@ pub fn check(image: &[u8]) -> Result<(), Broken> {
 }
 
 /// Resolves a path, the table checked first. The check reads the whole table: for
-/// more than one path, make a [`Table`] and use [`Table::resolve`].
+/// more than one path, make a [`Table`] and use [`Table::resolve`]. When the handle is checked,
+/// [`Handle`] says.
 ///
 /// ```
 /// use ventolaire::{bench_tree, resolve, Errno, Handle, OpenHow, Resolve};

@@ -21,7 +21,7 @@ impl fmt::Display for Place {
     }
 }
 
-/// The directory that a path starts from. Any numbers make a handle: it is the
+/// The directory that a relative path starts from. Any numbers make a handle: it is the
 /// library that refuses a bad one. A [`Place`] becomes one without the mark.
 ///
 /// ```
@@ -30,6 +30,31 @@ impl fmt::Display for Place {
 /// let handle = Handle::new(0, 1).marked();
 /// assert_eq!(handle, Handle { mount: 0, node: 1, mark: true });
 /// assert_eq!(Handle::from(Place { mount: 0, node: 1 }), Handle::new(0, 1));
+/// ```
+///
+/// It is checked before the walk: `EBADF` if there is no such mount or node; `ENOTDIR` if the
+/// node is not a directory; `EBADF` if it is not under the root of the mount, or if another mount
+/// covers it there. It is not checked where it has no use: for an absolute path, without the mark
+/// and without [`Resolve::IN_ROOT`]. [`Resolve::BENEATH`] refuses such a path with `EXDEV`,
+/// whatever the handle.
+///
+/// [`Resolve::IN_ROOT`]: crate::Resolve::IN_ROOT
+/// [`Resolve::BENEATH`]: crate::Resolve::BENEATH
+///
+/// ```
+/// use ventolaire::{bench_tree, Errno, Handle, OpenHow, Resolve, Table};
+///
+/// let table = Table::new(bench_tree::IMAGE)?;
+/// let nowhere = Handle::new(9, 99);
+/// let found = table.resolve(nowhere, "/lab", OpenHow::new())?;
+/// assert_eq!(found.to_string(), "(0,1); 1 component, 0 links");
+///
+/// let errno = |handle, path, how| table.resolve(handle, path, how).unwrap_err().errno;
+/// assert_eq!(errno(nowhere, "lab", OpenHow::new()), Errno::EBADF);
+/// assert_eq!(errno(nowhere.marked(), "/lab", OpenHow::new()), Errno::EBADF);
+/// assert_eq!(errno(nowhere, "/lab", Resolve::IN_ROOT.into()), Errno::EBADF);
+/// assert_eq!(errno(nowhere, "/lab", Resolve::BENEATH.into()), Errno::EXDEV);
+/// # Ok::<(), Box<dyn std::error::Error>>(())
 /// ```
 #[derive(Clone, Copy, Debug, PartialEq, Eq, Hash)]
 pub struct Handle {

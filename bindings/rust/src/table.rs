@@ -77,7 +77,9 @@ impl<'a> Table<'a> {
         Handle::new(0, self.mount(0).map_or(0, |mount| mount.root))
     }
 
-    /// Resolves a path from a handle or a [`Place`](crate::Place).
+    /// Resolves a path from a handle or a [`Place`](crate::Place). For an absolute path that may
+    /// be any, unless it is marked or [`Resolve::IN_ROOT`](crate::Resolve::IN_ROOT) is set:
+    /// [`Handle`] says when it is checked.
     ///
     /// ```
     /// use ventolaire::{bench_tree, Errno, Handle, OpenHow, Place, Resolve, Table};
@@ -89,6 +91,7 @@ impl<'a> Table<'a> {
     ///
     /// let refusal = table.resolve(lab, "pool/run", Resolve::NO_XDEV).unwrap_err();
     /// assert_eq!(refusal.errno, Errno::EXDEV);
+    /// assert_eq!(table.resolve(Handle::new(9, 99), "/lab", OpenHow::new())?.place.node, 1);
     /// # Ok::<(), Box<dyn std::error::Error>>(())
     /// ```
     pub fn resolve(

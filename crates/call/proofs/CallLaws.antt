@@ -1,15 +1,18 @@
 -- Laws of a call's checks: over an accepted table they are all that refuses before the walk, and the first that does decides.
 -- Assumes nothing.
 use Prim.Native.Nat.{ℕ}
+use mathlib.Core.Bool.{Bool, true, false, not}
 use mathlib.Core.List.{List}
 use mathlib.Core.Option.{none}
 use mathlib.Core.Path.{_≡_, sym, ap, _∙_}
+use borrow.Author.Tests.{not-true, not-false}
+use Rattle.model.specs.Bytes.{has}
 use Rattle.model.specs.Tree.{treeOf}
-use Rattle.model.specs.OpenHow.{howRefused}
-use Rattle.model.specs.Path.{pathRefused}
+use Rattle.model.specs.OpenHow.{howRefused, IN-ROOT}
+use Rattle.model.specs.Path.{pathRefused, absolute}
 use Rattle.model.specs.Handles.{handleRefused}
 use Rattle.model.specs.TableCheck.{tableCheck}
-use Rattle.model.specs.Resolve.{Call, refusedTable, refusedAfterTable, refusedBefore}
+use Rattle.model.specs.Resolve.{Call, refusedTable, uncheckedBy, handleUnchecked, refusedAfterTable, refusedBefore}
 use Rattle.model.specs.declared.Verdict.the-variants.{Accepted}
 use Rattle.model.specs.declared.Refusal.{Refusal}
 use Rattle.checks.specs.Checks.{checkOf}
@@ -34,6 +37,18 @@ module _ (image : List ℕ) (call : Call) where
   unfolding callRead
   accepted-call e = rw (accepted-before (ap refusedTable e))
 
+-- whether the handle is checked, asked of the path, then of resolve's bits, then of the mark
+module _ (path : List ℕ) (bits : ℕ) (marked : Bool) {slash : Bool} (slash-is : slash ≡ absolute path) where
+  pub relative-checked : not slash ≡ true → false ≡ uncheckedBy path bits marked
+  relative-checked e = rw (sym slash-is ∙ not-true _ e)
+
+  module _ (rooted : not slash ≡ false) {scope : Bool} (scope-is : scope ≡ has IN-ROOT bits) where
+    pub in-root-checked : scope ≡ true → false ≡ uncheckedBy path bits marked
+    in-root-checked e = rw (sym slash-is ∙ not-false _ rooted, sym scope-is ∙ e)
+
+    pub mark-decides : scope ≡ false → not marked ≡ uncheckedBy path bits marked
+    mark-decides e = rw (sym slash-is ∙ not-false _ rooted, sym scope-is ∙ e)
+
 -- the checks in their order: the first that refuses decides
 module _ (image : List ℕ) (call : Call) {read : HowRead} (how-is : read ≡ readHow (call .how)) where
   pub by-how : {q : Refusal} → read ≡ HowRefused q → CallRefused q ≡ callRead image call
@@ -49,14 +64,26 @@ module _ (image : List ℕ) (call : Call) {read : HowRead} (how-is : read ≡ re
     unfolding callRead refusedAfterTable
     by-path e = rw (how-passes .0, stopped (pathRefused (call .path)) _ (sym path-is ∙ e))
 
-    module _ (path-told : p ≡ Passes) {h : Check} (handle-is : h ≡ checkOf (handleRefused (treeOf image) (call .handle))) where
-      pub by-handle : {q : Refusal} → h ≡ Refused q → CallRefused q ≡ callRead image call
-      unfolding callRead refusedAfterTable
-      by-handle e =
-          rw (how-passes .0, passed (pathRefused (call .path)) (sym path-is ∙ path-told), stopped (handleRefused (treeOf image) (call .handle)) _ (sym handle-is ∙ e))
+    module _ (path-told : p ≡ Passes) {skips : Bool} (skips-is : skips ≡ uncheckedBy (call .path) (f .resolve) (call .handle .mark)) where
+      path-passes : pathRefused (call .path) ≡ none
+      path-passes = passed (pathRefused (call .path)) (sym path-is ∙ path-told)
 
-      pub by-fields : h ≡ Passes → Walks f ≡ callRead image call
+      unchecked-is : handleUnchecked call ≡ skips
+      unfolding handleUnchecked
+      unchecked-is = sym (skips-is ∙ ap (λ (g : How). uncheckedBy (call .path) (g .resolve) (call .handle .mark)) (how-passes .1))
+
+      pub by-unchecked : skips ≡ true → Walks f ≡ callRead image call
       unfolding callRead refusedAfterTable
-      by-fields e =
-          rw (how-passes .0, passed (pathRefused (call .path)) (sym path-is ∙ path-told), passed (handleRefused (treeOf image) (call .handle)) (sym handle-is ∙ e))
-          (ap Walks (how-passes .1))
+      by-unchecked e = rw (how-passes .0, path-passes, unchecked-is ∙ e) (ap Walks (how-passes .1))
+
+      module _ (checked : skips ≡ false) {h : Check} (handle-is : h ≡ checkOf (handleRefused (treeOf image) (call .handle))) where
+        pub by-handle : {q : Refusal} → h ≡ Refused q → CallRefused q ≡ callRead image call
+        unfolding callRead refusedAfterTable
+        by-handle e =
+            rw (how-passes .0, path-passes, unchecked-is ∙ checked, stopped (handleRefused (treeOf image) (call .handle)) _ (sym handle-is ∙ e))
+
+        pub by-fields : h ≡ Passes → Walks f ≡ callRead image call
+        unfolding callRead refusedAfterTable
+        by-fields e =
+            rw (how-passes .0, path-passes, unchecked-is ∙ checked, passed (handleRefused (treeOf image) (call .handle)) (sym handle-is ∙ e))
+            (ap Walks (how-passes .1))

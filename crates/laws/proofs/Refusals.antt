@@ -1,7 +1,7 @@
 -- Laws of the checks before the walk: what a call that they let through is known to be, and that a refusal by them carries no counts.
 -- Assumes nothing.
 use Prim.Native.Nat.{ℕ, _≤_}
-use mathlib.Core.Bool.{Bool, true, false, not, _&&_, _||_}
+use mathlib.Core.Bool.{Bool, true, false, cond, not, _&&_, _||_, and-false, true≢false}
 use mathlib.Core.List.{List}
 use mathlib.Core.Option.{Option, none, some}
 use mathlib.Core.Path.{_≡_, refl}
@@ -14,9 +14,9 @@ use Rattle.model.specs.TableCheck.{tableCheck}
 use Rattle.model.specs.Answers.{notWalked, refusal, refuseIf}
 use Rattle.model.specs.OpenHow.{flagsOf, resolveOf, unknownBit, refuseUnknown, tailSet, lengthRefused, flagsRefused, resolveRefused}
 use Rattle.model.specs.OpenHow.{scopesRefused, modeSet, modeRefused, howRefused, knownFlags, knownResolve, BENEATH, IN-ROOT}
-use Rattle.model.specs.Path.{pathRefused}
+use Rattle.model.specs.Path.{pathRefused, absolute}
 use Rattle.model.specs.Handles.{placeOf, handleRefused}
-use Rattle.model.specs.Resolve.{Call, refusedTable, refusedAfterTable, refusedBefore}
+use Rattle.model.specs.Resolve.{Call, refusedTable, handleUnchecked, refusedByHandle, refusedAfterTable, refusedBefore}
 use Rattle.model.specs.declared.Handle.{Handle}
 use Rattle.model.specs.declared.Refusal.{Refusal}
 use Rattle.model.specs.declared.Errno.{Errno}
@@ -39,20 +39,43 @@ accepted : (v : Verdict) → refusedTable v ≡ none → v ≡ Accepted
 accepted Accepted e = refl
 accepted (Broken rule r) e = absurd (some-not-none (refusal Euclean notWalked) e)
 
+-- the handle is checked where the path is relative, under IN_ROOT, and with the mark
+relative-checked : (call : Call) → absolute (call .path) ≡ false → handleUnchecked call ≡ false
+unfolding handleUnchecked
+relative-checked call e = rw e
+
+rooted-checked : (call : Call) → has IN-ROOT (resolveOf (call .how)) ≡ true → handleUnchecked call ≡ false
+unfolding handleUnchecked
+rooted-checked call e = rw (e, and-false (absolute (call .path)))
+
+pub marked-checked : (call : Call) → call .handle .mark ≡ true → handleUnchecked call ≡ false
+unfolding handleUnchecked
+marked-checked call e = rw e (and-false (absolute (call .path) && not (has IN-ROOT (resolveOf (call .how)))))
+
+-- a check that is skipped, or refuses nothing
+checked-passes : (b : Bool) (o : Option Refusal) → cond b none o ≡ none → b ≡ false → o ≡ none
+checked-passes true o e c = absurd (true≢false c)
+checked-passes false o e c = e
+
 -- a call that no check refuses
 pub record Unrefused (image : List ℕ) (call : Call) : Type 0 where
   pub table-passes : tableCheck image ≡ Accepted
   pub how-passes : howRefused (call .how) ≡ none
   pub path-passes : pathRefused (call .path) ≡ none
-  pub handle-passes : handleRefused (treeOf image) (call .handle) ≡ none
+  pub handle-passes : handleUnchecked call ≡ false → handleRefused (treeOf image) (call .handle) ≡ none
 
 pub unrefused : (image : List ℕ) (call : Call) → refusedBefore image call ≡ none → Unrefused image call
 unfolding refusedBefore refusedAfterTable
 unrefused image call e =
     let a = both-none (refusedTable (tableCheck image)) _ e in
     let b = both-none (howRefused (call .how)) _ (a .1) in
-    let c = both-none (pathRefused (call .path)) (handleRefused (treeOf image) (call .handle)) (b .1) in
-    record { table-passes = accepted (tableCheck image) (a .0); how-passes = b .0; path-passes = c .0; handle-passes = c .1 }
+    let c = both-none (pathRefused (call .path)) (refusedByHandle image call) (b .1) in
+    record {
+      table-passes = accepted (tableCheck image) (a .0);
+      how-passes = b .0;
+      path-passes = c .0;
+      handle-passes = checked-passes (handleUnchecked call) (handleRefused (treeOf image) (call .handle)) (c .1);
+    }
 
 -- it has a resolve,
 pub length-long : (how : List ℕ) → lengthRefused how ≡ none → 24 ≤ length how
@@ -63,17 +86,34 @@ pub how-long : (how : List ℕ) → howRefused how ≡ none → 24 ≤ length ho
 unfolding howRefused
 how-long how e = length-long how (both-none (lengthRefused how) _ e .0)
 
+-- not both scopes,
+pub scopes-apart : (how : List ℕ) → howRefused how ≡ none → has BENEATH (resolveOf how) ≡ true → has IN-ROOT (resolveOf how) ≡ false
+unfolding howRefused
+scopes-apart how e b =
+    let l = both-none (lengthRefused how) _ e in
+    let f = both-none (flagsRefused (flagsOf how)) _ (l .1) in
+    let k = both-none (resolveRefused (resolveOf how)) _ (f .1) in
+    let s = both-none (scopesRefused (resolveOf how)) (modeRefused how) (k .1) in
+    rw b at (passes (has BENEATH (resolveOf how) && has IN-ROOT (resolveOf how)) Einval none (s .0) .0)
+
 -- a path of at most 4,095 bytes,
 pub path-short : (path : List ℕ) → pathRefused path ≡ none → length path ≤ 4095
 unfolding pathRefused
 path-short path e = ltb-false _ _ (passes (ltb 4095 (length path)) Enametoolong _ e .0)
 
--- and a handle in the tree
-pub handle-inside : (t : Tree) (h : Handle) → handleRefused t h ≡ none → Inside t (placeOf h)
+-- and a handle in the tree, where the path is relative and under IN_ROOT
+handle-inside : (t : Tree) (h : Handle) → handleRefused t h ≡ none → Inside t (placeOf h)
 unfolding handleRefused
 handle-inside t h e =
     let b = both (ltb (h .mount) (t .mounts)) (ltb (h .node) (t .nodes)) (not-false _ (passes (not (ltb (h .mount) (t .mounts) && ltb (h .node) (t .nodes))) Ebadf _ e .0)) in
     record { mount-below = ltb-true _ _ (b .0); node-below = ltb-true _ _ (b .1) }
+
+module _ (image : List ℕ) (call : Call) (u : Unrefused image call) where
+  pub relative-inside : absolute (call .path) ≡ false → Inside (treeOf image) (placeOf (call .handle))
+  relative-inside e = handle-inside (treeOf image) (call .handle) (u .handle-passes (relative-checked call e))
+
+  pub rooted-inside : has IN-ROOT (resolveOf (call .how)) ≡ true → Inside (treeOf image) (placeOf (call .handle))
+  rooted-inside e = handle-inside (treeOf image) (call .handle) (u .handle-passes (rooted-checked call e))
 
 -- "both counts (0 before the walk)" (RULES 5.4)
 abbrev pub Uncounted : Option Refusal → Type 0
@@ -124,9 +164,14 @@ handle-uncounted t h =
     (if-uncounted (not (isDirectory t (h .node))) Enotdir _
     (if-uncounted (not (under t (h .node) (t .mountRoot (h .mount))) || covered t (placeOf h)) Ebadf none tt))
 
+skipped-uncounted : (b : Bool) (o : Option Refusal) → Uncounted o → Uncounted (cond b none o)
+skipped-uncounted true o h = tt
+skipped-uncounted false o h = h
+
 pub before-uncounted : (image : List ℕ) (call : Call) → Uncounted (refusedBefore image call)
 unfolding refusedBefore refusedAfterTable
 before-uncounted image call =
     or-uncounted (refusedTable (tableCheck image)) _ (table-uncounted (tableCheck image))
     (or-uncounted (howRefused (call .how)) _ (how-uncounted (call .how))
-    (or-uncounted (pathRefused (call .path)) _ (path-uncounted (call .path)) (handle-uncounted (treeOf image) (call .handle))))
+    (or-uncounted (pathRefused (call .path)) _ (path-uncounted (call .path))
+    (skipped-uncounted (handleUnchecked call) _ (handle-uncounted (treeOf image) (call .handle)))))

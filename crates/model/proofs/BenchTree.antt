@@ -13,7 +13,7 @@ use Rattle.model.specs.Resolve.{Call, callOf, resolve, placesOf}
 use Rattle.model.specs.declared.Place.{Place}
 use Rattle.model.specs.declared.Handle.{Handle}
 use Rattle.model.specs.declared.Errno.{Errno}
-use Rattle.model.specs.declared.Errno.the-variants.{Einval, Enoent, Enotdir, Eloop, Exdev}
+use Rattle.model.specs.declared.Errno.the-variants.{Ebadf, Einval, Enoent, Enotdir, Eloop, Exdev}
 use Rattle.model.specs.declared.Answer.{Answer}
 use Rattle.model.specs.declared.Answer.the-variants.{Found, Refused}
 
@@ -158,7 +158,7 @@ magicCall n = case magicLoop (callAt 0 0 false (magicPath n) 0 0)
 
 -- Further rows, for slips (RULES 14) that those above do not show: the handle told by node alone; mark and BENEATH swapped in a row;
 -- NO_SYMLINKS at an unfollowed last link; an unknown bit above 31; NO_XDEV at an absolute given path; ".." folded as text; magic
--- links not counted against the 40.
+-- links not counted against the 40; a handle out of range, and a file as the handle, with an absolute path.
 unfoldable pub ownTable : List Case
 ownTable =
     case bind (callAt 0 1 false (ascii "pool/..") 0 BENEATH) (at 0 1 2 0)
@@ -173,6 +173,11 @@ ownTable =
     ∷ call "cal/up/.." 0 0 (at 0 0 5 1)
     ∷ magicCall 40 (at 0 0 40 40)
     ∷ magicCall 41 (error Eloop 41 40)
+    ∷ case bench (callAt 9 99 false (ascii "/lab") 0 0) (at 0 1 1 0)
+    ∷ case bench (callAt 9 99 false (ascii "/lab") 0 BENEATH) (error Exdev 0 0)
+    ∷ case bench (callAt 9 99 false (ascii "/lab") 0 IN-ROOT) (error Ebadf 0 0)
+    ∷ case bench (callAt 9 99 true (ascii "/lab") 0 0) (error Ebadf 0 0)
+    ∷ case bench (callAt 0 3 true (ascii "/lab") 0 BENEATH) (error Enotdir 0 0)
     ∷ []
 
 -- what the resolver answers to a case

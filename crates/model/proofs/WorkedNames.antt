@@ -16,7 +16,8 @@ use Rattle.model.proofs.Names.{lookedUpIn, names}
 pub record WorkedNames : Type 0 where
   pub rows : map lookedUpIn names ≡ map (λ r. r .expected) names
   -- "A directory of 3,000 runs": 12 digits, as 2,048 and 4,095; 4,096 has 13
-  pub digits : map binaryDigits (0 ∷ 1 ∷ 2 ∷ 3 ∷ 4 ∷ 7 ∷ 8 ∷ 2047 ∷ 2048 ∷ 3000 ∷ 4095 ∷ 4096 ∷ []) ≡ 0 ∷ 1 ∷ 2 ∷ 2 ∷ 3 ∷ 3 ∷ 4 ∷ 11 ∷ 12 ∷ 12 ∷ 12 ∷ 13 ∷ []
+  pub digits : map binaryDigits (0 ∷ 1 ∷ 2 ∷ 3 ∷ 4 ∷ 7 ∷ 8 ∷ 2047 ∷ 2048 ∷ 3000 ∷ 4095 ∷ 4096 ∷ [])
+      ≡ 0 ∷ 1 ∷ 2 ∷ 2 ∷ 3 ∷ 3 ∷ 4 ∷ 11 ∷ 12 ∷ 12 ∷ 12 ∷ 13 ∷ []
 
 pub worked-names : WorkedNames
 unfolding field fieldBytes part contains sameBytes before find firstFailing ascii

@@ -12,7 +12,7 @@ use Rattle.model.specs.Handles.{handleRefused}
 use Rattle.model.specs.Trace.{meets, row, firstSet, forbids, answer}
 use Rattle.model.specs.Walk.{samePlace, rootOf, pointOf, enter, toParent, climb, atTop, goUp, magicLink, symbolicLink, followLink, stepTo, byName, oneComponent, finish, transition}
 use Rattle.model.specs.Walk.{walkPending, walk, beginAt, walkPath}
-use Rattle.model.specs.Resolve.{refusedAfterTable, refusedBefore, restrictions, requestOf, traceOf, resolve}
+use Rattle.model.specs.Resolve.{handleUnchecked, refusedAfterTable, refusedBefore, restrictions, requestOf, traceOf, resolve}
 use Rattle.model.specs.Descriptors.{start, slotAt, lowestFree, askedInVain, serve, repliesTo}
 use Rattle.model.proofs.BenchTree.{digit, hexBytes, hex, benchNodes, benchMounts, benchEntries, bench, openHow}
 use Rattle.model.proofs.Scripts.{replies, ran, marks, filled, full, covering, covers, unsigned, nothing, scripts}
@@ -29,7 +29,7 @@ unfolding field fieldBytes part has contains sameBytes before find firstFailing 
     upToSlash componentsFrom components absolute endsInSlash pathRefused handleRefused
     meets row firstSet forbids answer
     samePlace rootOf pointOf enter toParent climb atTop goUp magicLink symbolicLink followLink stepTo byName oneComponent finish transition walkPending walk beginAt walkPath
-    refusedAfterTable refusedBefore restrictions requestOf traceOf resolve
+    handleUnchecked refusedAfterTable refusedBefore restrictions requestOf traceOf resolve
     start slotAt lowestFree askedInVain serve repliesTo
     digit hexBytes hex benchNodes benchMounts benchEntries bench openHow ran marks filled full covering covers unsigned nothing scripts
 worked-scripts = refl

@@ -14,7 +14,7 @@ use Rattle.model.specs.Handles.{handleRefused}
 use Rattle.model.specs.Trace.{meets, row, firstSet, forbids, answer, stoodOn}
 use Rattle.model.specs.Walk.{samePlace, rootOf, pointOf, enter, toParent, climb, atTop, goUp, magicLink, symbolicLink, followLink, stepTo, byName, oneComponent, finish, transition}
 use Rattle.model.specs.Walk.{walkPending, walk, beginAt, walkPath}
-use Rattle.model.specs.Resolve.{refusedAfterTable, refusedBefore, restrictions, requestOf, traceOf, resolve, placesOf}
+use Rattle.model.specs.Resolve.{handleUnchecked, refusedAfterTable, refusedBefore, restrictions, requestOf, traceOf, resolve, placesOf}
 use Rattle.model.proofs.BenchTree.{digit, hexBytes, hex, smallest, benchNodes, benchMounts, benchEntries, bench, openHow, workedTable, bind, magicLoop, magicPath, ownTable}
 use Rattle.model.proofs.BenchTree.{run, stoodTable, stood}
 use Rattle.model.specs.declared.Verdict.the-variants.{Accepted}
@@ -36,7 +36,7 @@ unfolding field fieldBytes part has contains sameBytes before find firstFailing 
     upToSlash componentsFrom components absolute endsInSlash pathRefused handleRefused
     meets row firstSet forbids answer stoodOn
     samePlace rootOf pointOf enter toParent climb atTop goUp magicLink symbolicLink followLink stepTo byName oneComponent finish transition walkPending walk beginAt walkPath
-    refusedAfterTable refusedBefore restrictions requestOf traceOf resolve placesOf
+    handleUnchecked refusedAfterTable refusedBefore restrictions requestOf traceOf resolve placesOf
     digit hexBytes hex smallest benchNodes benchMounts benchEntries bench openHow workedTable bind magicLoop magicPath ownTable run stoodTable stood
 worked = record {
   smallest-accepted = refl;

@@ -1,6 +1,6 @@
 -- The resolver's answer, for any bytes at all.
 use Prim.Native.Nat.{ℕ}
-use mathlib.Core.Bool.{Bool, cond, not, _||_}
+use mathlib.Core.Bool.{Bool, cond, not, _&&_, _||_}
 use mathlib.Core.List.{List}
 use mathlib.Core.Option.{Option, none, some}
 use Rattle.model.specs.Bytes.{has, orElse, ifNone}
@@ -8,7 +8,7 @@ use Rattle.model.specs.Tree.{treeOf}
 use Rattle.model.specs.Answers.{refusal, notWalked}
 use Rattle.model.specs.TableCheck.{tableCheck}
 use Rattle.model.specs.OpenHow.{flagsOf, resolveOf, howRefused, O-DIRECTORY, O-NOFOLLOW, O-PATH, NO-XDEV, NO-MAGICLINKS, NO-SYMLINKS, BENEATH, IN-ROOT}
-use Rattle.model.specs.Path.{pathRefused, endsInSlash}
+use Rattle.model.specs.Path.{pathRefused, absolute, endsInSlash}
 use Rattle.model.specs.Handles.{placeOf, handleRefused}
 use Rattle.model.specs.Trace.{mark, beneath, noXdev, noSymlinks, noMagiclinks, Restrictions, Trace, answer, stoodOn}
 use Rattle.model.specs.Walk.{Request, rootOf, walkPath}
@@ -35,10 +35,19 @@ abbrev pub refusedTable : Verdict → Option Refusal
 refusedTable Accepted = none
 refusedTable (Broken rule r) = some (refusal Euclean notWalked)
 
--- "Order: table, open_how length .., flags, resolve, both scopes, mode, path too long, path empty, zero byte, handle, walk." (RULES 7.1, 7.5)
--- "It is checked for every path." of the handle
+-- "with an absolute path, no IN_ROOT and no mark, the handle isn't checked" (RULES 7.5): a path, the bits of resolve and a mark, and so a call
+abbrev pub uncheckedBy : List ℕ → ℕ → Bool → Bool
+uncheckedBy path bits marked = absolute path && not (has IN-ROOT bits) && not marked
+
+unfoldable pub handleUnchecked : Call → Bool
+handleUnchecked call = uncheckedBy (call .path) (resolveOf (call .how)) (call .handle .mark)
+
+abbrev pub refusedByHandle : List ℕ → Call → Option Refusal
+refusedByHandle image call = cond (handleUnchecked call) none (handleRefused (treeOf image) (call .handle))
+
+-- "Order: table, open_how length .., flags, resolve, both scopes, mode, path too long, path empty, zero byte, handle, walk." (RULES 7.1)
 unfoldable pub refusedAfterTable : List ℕ → Call → Option Refusal
-refusedAfterTable image call = orElse (howRefused (call .how)) (orElse (pathRefused (call .path)) (handleRefused (treeOf image) (call .handle)))
+refusedAfterTable image call = orElse (howRefused (call .how)) (orElse (pathRefused (call .path)) (refusedByHandle image call))
 
 -- all of these, the table first (RULES 7.1)
 unfoldable pub refusedBefore : List ℕ → Call → Option Refusal

@@ -105,6 +105,10 @@ module _ (s path : List ℕ) (k : Request) (directory : Bool) {slash : Bool} (sl
   abbrev Walked : Answer
   Walked = answer (restrictionsFor k) (walkPath (requestFor s k) directory path)
 
+  -- a relative path begins at the handle, which then stands in the tree
+  pub begins-inside : not slash ≡ true → (absolute path ≡ false → Inside (treeOf s) (k .handle)) → Inside (treeOf s) (k .handle)
+  begins-inside n inside = inside (sym slash-is ∙ not-true _ n)
+
   pub from-handle : {r : Answer} → not slash ≡ true → r ≡ answer (restrictionsFor k) (beginAt (requestFor s k) directory path (k .handle)) → r ≡ Walked
   unfolding walkPath
   from-handle n is = is ∙ rw (sym slash-is ∙ not-true _ n)

@@ -1,13 +1,13 @@
 -- A call over an accepted table, from what its checks read to its answer. Assumes nothing.
 use Prim.Native.Nat.{ℕ, _≤_}
-use mathlib.Core.Bool.{Bool, _||_}
+use mathlib.Core.Bool.{Bool, true, false, _||_}
 use mathlib.Core.List.{List}
 use mathlib.Core.Option.{Option, some, none}
-use mathlib.Core.Path.{_≡_, refl, sym, ap₂, _∙_, subst}
+use mathlib.Core.Path.{_≡_, refl, sym, ap, ap₂, _∙_, subst}
 use native.Mathlib.Omega.{arith}
 use Rattle.model.specs.Bytes.{has}
 use Rattle.model.specs.OpenHow.{O-DIRECTORY, IN-ROOT, flagsOf}
-use Rattle.model.specs.Path.{endsInSlash}
+use Rattle.model.specs.Path.{absolute, endsInSlash}
 use Rattle.model.specs.Trace.{answer}
 use lib.ListN.{length}
 use Rattle.model.specs.Answers.{notWalked, refused, progressOf}
@@ -22,7 +22,7 @@ use Rattle.laws.proofs.Acceptance.{accepted-sound}
 use Rattle.laws.specs.Inside.{Inside}
 use Rattle.theorems.specs.Bounded.{Bounded}
 use Rattle.theorems.proofs.Bounds.{either-root-inside, every-walk-bounded}
-use Rattle.laws.proofs.Refusals.{unrefused, path-short, handle-inside}
+use Rattle.laws.proofs.Refusals.{Unrefused, unrefused, path-short, relative-inside, rooted-inside}
 use Rattle.parts.specs.declared.records.Counts.{Counts}
 use Rattle.image.specs.Counts.{countsOf, Counted}
 use Rattle.image.proofs.CountLaws.{counts}
@@ -87,20 +87,24 @@ module _ (s : List ℕ) (h : Handle) (path how : List ℕ) where
       walks : (refusedBefore s call ≡ none) × (fieldsOf how ≡ f)
       walks = walks-none (refusedBefore s call) (fieldsOf how) f (sym (accepted-call s call accepted) ∙ sym is ∙ told)
 
-      handle-stands : Inside (treeOf s) (placeOf h)
-      handle-stands = handle-inside (treeOf s) h (unrefused s call (walks .0) .handle-passes)
+      passing : Unrefused s call
+      passing = unrefused s call (walks .0)
 
       pub path-few : length path ≤ 4095
-      path-few = path-short path (unrefused s call (walks .0) .path-passes)
+      path-few = path-short path (passing .path-passes)
+
+      -- "The root is the handle under IN_ROOT" (RULES 9.2), and then the handle was checked
+      root-stands : has IN-ROOT (f .resolve) ≡ true → Inside (treeOf s) (placeOf h)
+      root-stands e = rooted-inside s call passing (ap (λ (g : How). has IN-ROOT (g .resolve)) (walks .1) ∙ e)
 
       module _ {slash : Bool} (slash-is : slash ≡ endsInSlash path) {k : Request} (k-is : k ≡ numbersBy s h f slash) where
         pub walking : {c : Counts} → c ≡ countsOf s → Walking s c k
         walking counts-are =
-            let root = either-root-inside (accepted-sound s accepted) (placeOf h) handle-stands (has IN-ROOT (f .resolve)) in
+            let root = either-root-inside (accepted-sound s accepted) (placeOf h) (has IN-ROOT (f .resolve)) root-stands in
             record { reading = reading s accepted counts-are; root-inside = subst (λ x. Inside (treeOf s) (x .root)) (sym k-is) root }
 
-        pub handle-found : Inside (treeOf s) (k .handle)
-        handle-found = subst (λ x. Inside (treeOf s) (x .handle)) (sym k-is) handle-stands
+        pub handle-found : absolute path ≡ false → Inside (treeOf s) (k .handle)
+        handle-found e = subst (λ x. Inside (treeOf s) (x .handle)) (sym k-is) (relative-inside s call passing e)
 
         pub read-walked : {directory : Bool} {r : Answer} → directory ≡ has O-DIRECTORY (f .flags) || slash
             → r ≡ answer (restrictionsFor k) (walkPath (requestFor s k) directory path) → Answers r

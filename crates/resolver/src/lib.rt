@@ -25,12 +25,13 @@ use text::is_absolute;
 use text::skip_slashes;
 use walk::Walk;
 use walk::run;
-ghost use mathlib.Core.Bool.{_||_};
+ghost use mathlib.Core.Bool.{false, _||_};
 ghost use mathlib.Core.Path.{_≡_};
 ghost use Prim.Native.Nat.{ℕ, _≤_};
 ghost use lib.ListN.{length};
 ghost use Rattle.model.specs.Bytes.{has};
 ghost use Rattle.model.specs.OpenHow.{O-DIRECTORY};
+ghost use Rattle.model.specs.Path.{absolute};
 ghost use Rattle.model.specs.Tree.{treeOf};
 ghost use Rattle.model.specs.TableCheck.{tableCheck};
 ghost use Rattle.model.specs.Trace.{answer};
@@ -77,9 +78,9 @@ fn begin<'a>(
     run(image, c, k, path, w, &mut stack)
 }
 
-// Start is met by an absolute path, with both counts 0 (RULES 9.3).
+// Start is met by an absolute path, with both counts 0 (RULES 9.3). Such a path does not begin at the handle, which may then be anywhere.
 fn walk_path<'a>(image: &'a [u8], c: Counts, k: Request, path: &'a [u8], directory: bool) -> Answer
-    requires { ⌜ Walking (now image) c k × Inside (treeOf (now image)) (k .handle) × (length (now path) ≤ 4095) ⌝ }
+    requires { ⌜ Walking (now image) c k × (absolute (now path) ≡ false → Inside (treeOf (now image)) (k .handle)) × (length (now path) ≤ 4095) ⌝ }
     ensures { λ r. ⌜ r ≡ answer (restrictionsFor k) (walkPath (requestFor (now (image .entry)) k) directory (now (path .entry))) ⌝ }
 {
     let handle = k.handle;

@@ -1,7 +1,7 @@
 -- "At most 40 links are followed and at most 83,968 components taken (41 texts of at most 2,048)." (RULES 11.1), whatever the bytes; and a place
 -- that is found is one of the tree. Assumes nothing.
 use Prim.Native.Nat.{ℕ, zero, suc, _-_, _≤_, _<_}
-use mathlib.Core.Bool.{Bool, cond, not, _&&_, _||_}
+use mathlib.Core.Bool.{Bool, true, false, cond, not, _&&_, _||_}
 use mathlib.Core.List.{List, [], _∷_}
 use mathlib.Core.Option.{Option, none, some}
 use mathlib.Core.Path.{_≡_, refl, sym, subst}
@@ -32,7 +32,7 @@ use Rattle.laws.proofs.ComponentLaws.{components-few}
 use Rattle.laws.specs.Acceptance.{Sound}
 use Rattle.laws.proofs.Acceptance.{accepted-sound, body-small}
 use Rattle.laws.proofs.Inside.{root-inside, LandingInside, StepInside, one-component-inside}
-use Rattle.laws.proofs.Refusals.{unrefused, path-short, handle-inside, Uncounted, before-uncounted}
+use Rattle.laws.proofs.Refusals.{unrefused, path-short, relative-inside, rooted-inside, Uncounted, before-uncounted}
 
 not-walked-bounded : Bounded notWalked
 not-walked-bounded = record { few-links = lit≤ tt; few-components = lit≤ tt }
@@ -153,17 +153,17 @@ module _ (a : Request) (sound : Sound (a .tree)) (root : Inside (a .tree) (a .ro
       walk-within 40 (components givenPath path) (record { place = p; progress = notWalked; directory = directory }) i
       (record { links-left = lit≤ tt; texts-left = omega (arith, few) })
 
-  path-within : (directory : Bool) (path : List ℕ) → length path ≤ 4095 → Inside (a .tree) (a .handle) → Within (a .tree) (walkPath a directory path)
+  path-within : (directory : Bool) (path : List ℕ) → length path ≤ 4095 → (absolute path ≡ false → Inside (a .tree) (a .handle)) → Within (a .tree) (walkPath a directory path)
   unfolding walkPath
   path-within directory path h i =
       cond-cases (Within (a .tree)) (absolute path) _ _
       (λ _. (not-walked-bounded, begin-within directory path (a .root) h root))
-      (λ _. begin-within directory path (a .handle) h i)
+      (λ e. begin-within directory path (a .handle) h (i e))
 
 -- a call's root, the handle's place or mount 0's root, is in a sound tree
-pub either-root-inside : {t : Tree} → Sound t → (p : Place) → Inside t p → (b : Bool) → Inside t (cond b p (rootOf t 0))
-either-root-inside {t} sound p inside b =
-    cond-cases (Inside t) b p (rootOf t 0) (λ _. inside) (λ _. root-inside t sound 0 (sound .mounts-hold .some-mount))
+pub either-root-inside : {t : Tree} → Sound t → (p : Place) (b : Bool) → (b ≡ true → Inside t p) → Inside t (cond b p (rootOf t 0))
+either-root-inside {t} sound p b inside =
+    cond-cases (Inside t) b p (rootOf t 0) inside (λ _. root-inside t sound 0 (sound .mounts-hold .some-mount))
 
 resolve-within-by : (image : List ℕ) (call : Call) (o : Option Refusal) → refusedBefore image call ≡ o
     → Uncounted o → AnswerWithin (treeOf image) (unlessRefused o (answer (restrictions call) (traceOf image call)))
@@ -173,11 +173,10 @@ resolve-within-by image call none e u =
     let tree = treeOf image in
     let un = unrefused image call e in
     let sound = accepted-sound image (un .table-passes) in
-    let handle = handle-inside tree (call .handle) (un .handle-passes) in
-    let root = either-root-inside sound (placeOf (call .handle)) handle (has IN-ROOT (resolveOf (call .how))) in
+    let root = either-root-inside sound (placeOf (call .handle)) (has IN-ROOT (resolveOf (call .how))) (λ r. rooted-inside image call un r) in
     let directory = has O-DIRECTORY (flagsOf (call .how)) || endsInSlash (call .path) in
     answer-within tree (restrictions call) (traceOf image call)
-    (path-within (requestOf image call) sound root directory (call .path) (path-short (call .path) (un .path-passes)) handle)
+    (path-within (requestOf image call) sound root directory (call .path) (path-short (call .path) (un .path-passes)) (λ r. relative-inside image call un r))
 
 resolve-within : (image : List ℕ) (call : Call) → AnswerWithin (treeOf image) (resolve image call)
 unfolding resolve

@@ -20,7 +20,7 @@ use Rattle.model.specs.OpenHow.{flagsOf, modeOf, paddingOf, resolveOf, unknownB
 use Rattle.model.specs.OpenHow.{modeSet, howRefused, knownResolve, NO-XDEV, NO-MAGICLINKS, NO-SYMLINKS, BENEATH, IN-ROOT}
 use Rattle.model.specs.Handles.{placeOf, handleRefused}
 use Rattle.model.specs.Trace.{Restriction, mark, beneath, noXdev, noSymlinks, noMagiclinks, Restrictions}
-use Rattle.model.specs.Resolve.{Call, refusedAfterTable, refusedBefore, restrictions, requestOf, traceOf, resolve}
+use Rattle.model.specs.Resolve.{Call, handleUnchecked, refusedByHandle, refusedAfterTable, refusedBefore, restrictions, requestOf, traceOf, resolve}
 use Rattle.theorems.specs.Adding.{Added, addedBits, Adds, Meeting, eventsOf, firstForbidden, withBits, withMark, withAdded, OnlyStops, Demand3}
 use Rattle.model.specs.declared.Handle.{Handle}
 use Rattle.model.specs.declared.Progress.{Progress}
@@ -151,16 +151,27 @@ handle-kept : (t : Tree) (h h′ : Handle) → placeOf h′ ≡ placeOf h → ha
 unfolding handleRefused
 handle-kept t h h′ e = rw (ap (λ p. p .mount) e, ap (λ p. p .node) e)
 
-module _ (added : Restrictions) (image : List ℕ) (call call′ : Call) (adds : Adds added call call′)
+-- a check that refuses nothing is one that may be skipped
+skips : (b : Bool) (o : Option Refusal) → o ≡ none → cond b none o ≡ none
+skips true o e = refl
+skips false o e = e
+
+module _ (added : Restrictions) (image : List ℕ) (call call′ : Call) (good : handleRefused (treeOf image) (call .handle) ≡ none) (adds : Adds added call call′)
     (scope : 24 ≤ length (call .how) → added beneath ≡ true → has IN-ROOT (resolveOf (call .how)) ≡ false) where
   how-same-by : (b : Bool) → ltb (length (call .how)) 24 ≡ b → howRefused (call′ .how) ≡ howRefused (call .how)
   how-same-by true e = ap howRefused (adds .short (ltb-true _ _ e))
   how-same-by false e = how-kept added call call′ adds (scope (ltb-false _ _ e)) (ltb-false _ _ e)
 
+  -- the mark may turn the check on, and a good handle passes it
+  good-kept : refusedByHandle image call′ ≡ refusedByHandle image call
+  good-kept =
+      skips (handleUnchecked call′) _ (handle-kept (treeOf image) (call .handle) (call′ .handle) (adds .samePlace) ∙ good)
+      ∙ sym (skips (handleUnchecked call) _ good)
+
   before-kept : refusedBefore image call′ ≡ refusedBefore image call
   unfolding refusedBefore refusedAfterTable
   before-kept =
-      rw (how-same-by (ltb (length (call .how)) 24) refl, adds .samePath, handle-kept (treeOf image) (call .handle) (call′ .handle) (adds .samePlace))
+      rw (good-kept, how-same-by (ltb (length (call .how)) 24) refl, adds .samePath)
 
   trace-kept : 24 ≤ length (call .how) → traceOf image call′ ≡ traceOf image call
   unfolding traceOf requestOf
@@ -186,7 +197,7 @@ module _ (added : Restrictions) (image : List ℕ) (call call′ : Call) (adds :
 
 pub demand-3 : Demand3
 demand-3 added image call call′ a =
-    only-stops added image call call′ (a .adds) (a .scope) (refusedBefore image call) refl
+    only-stops added image call call′ (a .good) (a .adds) (a .scope) (refusedBefore image call) refl
 
 -- the same of answers that are known to be the two calls'
 pub only-stops-answers : (image : List ℕ) (call call′ : Call) {first second : Answer} → first ≡ resolve image call → second ≡ resolve image call′

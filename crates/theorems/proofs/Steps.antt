@@ -28,7 +28,7 @@ refused-or : (a b : Option Errno) (p : Progress) (later : Answer) → refusedBy 
 refused-or none b p later = refl
 refused-or (some e) b p later = refl
 
-meets-answer : (R : Restrictions) (es : List Event) (p : Progress) (later : Trace) → answer R (meets es p later) ≡ refusedBy (forbidAny R es) p (answer R later)
+pub meets-answer : (R : Restrictions) (es : List Event) (p : Progress) (later : Trace) → answer R (meets es p later) ≡ refusedBy (forbidAny R es) p (answer R later)
 unfolding meets answer forbidAny
 meets-answer R [] p later = refl
 meets-answer R (e ∷ es) p later = ap (refusedBy (forbids R e) p) (meets-answer R es p later) ∙ refused-or (forbids R e) (forbidAny R es) p (answer R later)

@@ -17,7 +17,7 @@ use Rattle.model.specs.Handles.{handleRefused}
 use Rattle.model.specs.Trace.{beneath, Restrictions, meets, row, firstSet, forbids, refusedBy, answer}
 use Rattle.model.specs.Walk.{samePlace, rootOf, pointOf, enter, toParent, climb, atTop, goUp, magicLink, symbolicLink, followLink}
 use Rattle.model.specs.Walk.{stepTo, byName, oneComponent, finish, transition, walkPending, walk, beginAt, walkPath}
-use Rattle.model.specs.Resolve.{refusedAfterTable, refusedBefore, restrictions, requestOf, traceOf, resolve}
+use Rattle.model.specs.Resolve.{handleUnchecked, refusedAfterTable, refusedBefore, restrictions, requestOf, traceOf, resolve}
 use Rattle.model.proofs.BenchTree.{digit, hexBytes, hex, benchNodes, benchMounts, benchEntries, bench, openHow}
 use Rattle.model.specs.declared.Errno.{Errno}
 use Rattle.model.specs.declared.Answer.{Answer}
@@ -57,7 +57,7 @@ unfolding field fieldBytes part has contains sameBytes before find firstFailing 
     meets row firstSet forbids answer
     samePlace rootOf pointOf enter toParent climb atTop goUp magicLink symbolicLink followLink
     stepTo byName oneComponent finish transition walkPending walk beginAt walkPath
-    refusedAfterTable refusedBefore restrictions requestOf traceOf resolve
+    handleUnchecked refusedAfterTable refusedBefore restrictions requestOf traceOf resolve
     digit hexBytes hex benchNodes benchMounts benchEntries bench openHow
     addedBits withBits withMark meetings eventsOf firstForbidden setOf
 rows = record {

@@ -4,3 +4,4 @@ pub mod Bounded
 pub mod Ordered
 pub mod Descriptors
 pub mod Searched
+pub mod AnyHandle

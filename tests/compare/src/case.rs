@@ -3,11 +3,13 @@
 use crate::halving::Looked;
 use crate::lookup::Lookup;
 use crate::resolver::{
-    self, resolve_field, resolve_with_events, second_answer, Answer, Event, Met, Place,
-    Restrictions, BENEATH, IN_ROOT, NO_MAGICLINKS, NO_SYMLINKS, NO_XDEV,
+    self, accept, handle_is_checked, resolve_field, resolve_with_events, second_answer, Answer,
+    Event, Met, Place, Restrictions, Table, BENEATH, IN_ROOT, NO_MAGICLINKS, NO_SYMLINKS, NO_XDEV,
 };
 use crate::sequence::{Sequence, Told};
 use crate::subject::{Handle, Lent, Subject};
+use crate::tried::Tried;
+use data::dice::Dice;
 use data::worked::{call_arguments, check_arguments, sequence_arguments};
 use std::fmt;
 
@@ -69,7 +71,37 @@ impl Call {
 
     /// The resolver's own answer.
     pub fn answer(&self) -> (Answer, Vec<Met>) {
-        resolve_with_events(&self.image, self.place(), self.mark, &self.path, &self.how)
+        self.answer_over(accept(&self.image).ok().as_ref())
+    }
+
+    /// The same over what the image holds, if that is accepted.
+    fn answer_over(&self, table: Option<&Table>) -> (Answer, Vec<Met>) {
+        resolve_with_events(table, self.place(), self.mark, &self.path, &self.how)
+    }
+
+    /// What demand 3 says of the second call, from the first one's events alone, and the event
+    /// at which the added restrictions stop it.
+    fn second_answer(&self, first: Answer, events: &[Met]) -> (Answer, Option<Event>) {
+        let set = Restrictions::new(self.mark, resolve_field(&self.how).unwrap_or(0));
+        let added = Restrictions::new(self.added_mark, added_bits(&self.how, self.added));
+        let stopped = events.iter().find(|met| met.event.forbidden(added).is_some());
+        (second_answer(first, events, set, added), stopped.map(|met| met.event))
+    }
+
+    /// The same call from some other handle, good or bad, if its own is not checked: that
+    /// makes no difference then. Which one hangs on the call alone, so it can be replayed.
+    pub fn with_another_handle(&self) -> Option<Call> {
+        if handle_is_checked(self.mark, &self.path, resolve_field(&self.how).unwrap_or(0)) {
+            return None;
+        }
+        let bytes = self.path.iter().chain(&self.how).map(|byte| u64::from(*byte));
+        let seed = bytes.fold(self.mount ^ self.node, |sum, byte| sum.rotate_left(7) ^ byte);
+        let mut dice = Dice::of(seed);
+        let mut number = |limit: usize| match dice.below(3) {
+            0 => dice.roll(),
+            _ => dice.below(limit) as u64,
+        };
+        Some(Call { mount: number(3), node: number(12), ..self.clone() })
     }
 
     /// The subject's answer.
@@ -121,6 +153,8 @@ pub enum Alike {
         second: Answer,
         /// The event at which the added restrictions stopped the walk.
         stopped: Option<Event>,
+        /// None if it was refused before it came to the handle.
+        tried: Option<Tried>,
     },
     Sequence {
         accepted: bool,
@@ -192,30 +226,37 @@ fn compare_table(subject: &mut dyn Subject, image: &[u8]) -> Result<Alike, Diffe
 }
 
 fn compare_call(subject: &mut dyn Subject, call: &Call) -> Result<Alike, Difference> {
-    let mut ask = |call: &Call, expected: &Answer, what: &str| {
-        let lent = call.lent();
-        let mut used = lent.clone();
-        let got = subject.resolve(&mut used, call.handle());
-        same(what, &expected.numbers(), got)?;
-        unchanged(&lent, &used)
-    };
+    let table = accept(&call.image).ok();
+    let (first, events) = call.answer_over(table.as_ref());
+    ask(subject, call, &first, "resolve")?;
+    if let Some(other) = call.with_another_handle() {
+        let what = format!("the same from ({},{}), which is not checked", other.mount, other.node);
+        ask(subject, &other, &first, &what)?;
+    }
 
-    let (first, events) = call.answer();
-    ask(call, &first, "resolve")?;
-
-    // The second answer is worked out from the first one's events alone.
-    let set = Restrictions::new(call.mark, resolve_field(&call.how).unwrap_or(0));
-    let added = Restrictions::new(call.added_mark, added_bits(&call.how, call.added));
-    let second = second_answer(first, &events, set, added);
     let again = call.second();
-    ask(&again, &second, "demand 3: the call with restrictions added")?;
+    let own = again.answer_over(table.as_ref()).0;
+    let good = table.as_ref().filter(|table| table.handle_errno(call.place()).is_none());
+    // Demand 3 speaks of good handles: the mark has a bad one checked that was not.
+    let (second, stopped) = good.map_or((own, None), |_| call.second_answer(first, &events));
+    ask(subject, &again, &second, "demand 3: the call with restrictions added")?;
     // The walk itself, run with the added ones, must say the same.
-    same(
-        "demand 3 within the comparing resolver itself",
-        &second.numbers(),
-        again.answer().0.numbers().to_vec(),
-    )?;
-    let stopped =
-        events.iter().find(|met| met.event.forbidden(added).is_some()).map(|met| met.event);
-    Ok(Alike::Call { first, events, second, stopped })
+    let what = "demand 3 within the comparing resolver itself";
+    same(what, &second.numbers(), own.numbers().to_vec())?;
+    let tried = Tried::of(table.as_ref(), call.place(), call.mark, &call.path, &call.how);
+    Ok(Alike::Call { first, events, second, stopped, tried })
+}
+
+/// The subject answers so, and only reads what it is lent.
+fn ask(
+    subject: &mut dyn Subject,
+    call: &Call,
+    expected: &Answer,
+    what: &str,
+) -> Result<(), Difference> {
+    let lent = call.lent();
+    let mut used = lent.clone();
+    let got = subject.resolve(&mut used, call.handle());
+    same(what, &expected.numbers(), got)?;
+    unchanged(&lent, &used)
 }

@@ -2,7 +2,7 @@
 //! alone (RULES 17), to be compared with the library.
 
 use crate::resolver::{
-    flags_field, resolve_in, Answer, Met, Place, Table, EBADF, EINVAL, EUCLEAN, NO_DETAIL,
+    flags_field, resolve_with_events, Answer, Met, Place, Table, EBADF, EINVAL, NO_DETAIL,
     O_DIRECTORY,
 };
 use data::sequence::{Open, Step};
@@ -43,8 +43,7 @@ impl Descriptors {
     /// refused)."
     pub fn start(table: Option<&Table>) -> Descriptors {
         let mut slots = [None; SLOTS];
-        let root = table.and_then(|table| table.mount(0)).map(|mount| mount.root);
-        slots[0] = root.map(|node| Held { place: Place { mount: 0, node }, mark: false });
+        slots[0] = table.map(|table| Held { place: table.top(), mark: false });
         Descriptors { slots }
     }
 
@@ -96,9 +95,7 @@ impl Descriptors {
     /// The resolver's own answer, with the events of its walk, if it comes to that.
     pub fn resolve(&self, table: Option<&Table>, open: &Open) -> Result<(Answer, Vec<Met>), u64> {
         let Held { place, mark } = self.admit(open)?;
-        let unread = || (Answer::refused(EUCLEAN, NO_DETAIL), Vec::new());
-        let answer = |table| resolve_in(table, place, mark, &open.path, &open.how);
-        Ok(table.map_or_else(unread, answer))
+        Ok(resolve_with_events(table, place, mark, &open.path, &open.how))
     }
 
     /// An open's reply to the resolver's answer: the place found gets a number, unmarked

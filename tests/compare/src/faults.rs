@@ -44,7 +44,29 @@ faults! {
     HandleAnywhere: "a handle may lie outside its mount", "handle-outside-mount-1";
     HandleKindLate: "the handle's place is tested before its kind", "order-kind-under";
     HandleCut: "the handle's numbers are cut to 32 bits", "handle-mount-2-to-32";
+    // Whether the handle is checked.
+    HandleAlways: "the handle is checked for every path", "handle-node-12-absolute";
+    RangeAlways: "an absolute path wants a handle in range", "handle-both-2-to-64-less-1-absolute";
+    KindAlways: "an absolute path wants a handle that is a directory", "handle-file-absolute";
+    PlaceAlways: "an absolute path wants a handle in its mount and not covered",
+        "handle-covered-absolute";
+    RestrictedChecked: "an absolute path's handle is checked if resolve is not 0",
+        "unchecked-mount-no-xdev";
+    BeneathChecked: "an absolute path's handle is checked under BENEATH", "handle-covered-beneath";
+    SlashesChecked: "the handle is checked for a path of slashes alone", "unchecked-slashes";
+    InRootUnchecked: "an absolute path's handle is not checked under IN_ROOT",
+        "handle-covered-in-root";
+    MarkedUnchecked: "an absolute path's handle is not checked if it is marked",
+        "handle-covered-mark";
+    MarkedKindUnchecked: "the kind of a marked handle is not checked for an absolute path",
+        "handle-file-mark";
+    MarkBeforeHandle: "the mark refuses an absolute path before the handle is checked",
+        "handle-covered-mark-in-root";
+    BeneathUnchecked: "a relative path's handle is not checked under BENEATH", "order-range-walk";
+    BeneathBeforePath: "BENEATH refuses an absolute path before its length and bytes",
+        "order-zero-beneath-absolute";
     // The walk.
+    StartCounted: "an absolute path refused by BENEATH counts as one component", "start-beneath";
     StartAtTop: "an absolute path begins at mount 0's root under IN_ROOT too", "start-in-root";
     NoStartInRoot: "Start is not met under IN_ROOT", "start-mark-in-root";
     NoEscapeInRoot: "Escape is not met under IN_ROOT", "escape-mark-in-root";
@@ -130,6 +152,8 @@ faults! {
     FullFirst: "EMFILE comes before the resolver's refusal", "fill-71";
     FullCounts: "EMFILE carries the counts of the walk", "fill-64";
     RefusalCloses: "a refused open closes its number", "leaves-5";
+    ClosedUnneeded: "an absolute path is opened from a closed number", "number-37";
+    AskedChecked: "the mark asked for has the handle of an absolute path checked", "absolute-9";
     RefusedFirst: "an open over a refused table is EUCLEAN, not EBADF", "start-refused-1";
     // Lookups: the halving.
     LaterMiddle: "of two middles the later is compared", "lookup-two-earlier";

@@ -29,6 +29,7 @@ mod shrink;
 mod stats;
 mod subject;
 mod tree;
+mod tried;
 mod worked;
 
 use arguments::Arguments;
@@ -284,10 +285,7 @@ fn replay(arguments: &Arguments) -> Result<bool, String> {
     println!("  got      {:?}", subject.check(&mut case.image().to_vec()));
     match &case {
         Case::Table(_) => {}
-        Case::Call(call) => {
-            answers("resolve", call, subject.as_mut());
-            answers("with the added ones", &call.second(), subject.as_mut());
-        }
+        Case::Call(call) => call_answers(call, subject.as_mut()),
         Case::Sequence(sequence) => {
             let (got, _) = sequence.got(subject.as_mut(), Way::CHECKED);
             // The start's is the check's.
@@ -312,6 +310,15 @@ fn replay(arguments: &Arguments) -> Result<bool, String> {
     let passed = u8::from(compared.is_ok());
     println!("{passed} passed, {} failed", 1 - passed);
     Ok(compared.is_ok())
+}
+
+/// The call, the same from another handle if its own is not checked, and the second call.
+fn call_answers(call: &Call, subject: &mut dyn Subject) {
+    answers("resolve", call, subject);
+    if let Some(other) = call.with_another_handle() {
+        answers(&format!("from ({},{})", other.mount, other.node), &other, subject);
+    }
+    answers("with the added ones", &call.second(), subject);
 }
 
 /// Prints both answers to a call, and the events of its walk.

@@ -340,6 +340,11 @@ impl<'a> Table<'a> {
         })
     }
 
+    /// Mount 0's root.
+    pub fn top(&self) -> Place {
+        Place { mount: 0, node: self.mounts.first().map_or(0, |mount| mount.root) }
+    }
+
     /// What the handle checks answer; none for a good handle.
     pub fn handle_errno(&self, handle: Place) -> Option<u64> {
         let (Some(mount), Some(node)) = (self.mount(handle.mount), self.node(handle.node)) else {
@@ -554,18 +559,30 @@ fn check_path(path: &[u8]) -> Result<(), u64> {
     }
 }
 
+/// Whether nothing that comes before the handle refuses the call, over an accepted table.
+pub fn comes_to_handle(path: &[u8], how: &[u8]) -> bool {
+    read_how(how).is_ok() && check_path(path).is_ok()
+}
+
+/// Request 2026-03: "with an absolute path, no IN_ROOT and no mark, the handle isn't checked.
+/// A marked handle is still checked first".
+pub fn handle_is_checked(mark: bool, path: &[u8], resolve: u64) -> bool {
+    mark || resolve & IN_ROOT != 0 || !path.starts_with(b"/")
+}
+
 /// The answer, with the events that the walk meets in the order met; a call
-/// refused before the walk meets none.
+/// refused before the walk meets none. `table` is what the image holds, if that
+/// is accepted.
 pub fn resolve_with_events(
-    image: &[u8],
+    table: Option<&Table>,
     handle: Place,
     mark: bool,
     path: &[u8],
     how: &[u8],
 ) -> (Answer, Vec<Met>) {
-    match accept(image) {
-        Ok(table) => resolve_in(&table, handle, mark, path, how),
-        Err(_) => (Answer::refused(EUCLEAN, NO_DETAIL), Vec::new()),
+    match table {
+        Some(table) => resolve_in(table, handle, mark, path, how),
+        None => (Answer::refused(EUCLEAN, NO_DETAIL), Vec::new()),
     }
 }
 
@@ -584,10 +601,11 @@ pub fn resolve_in(
     if let Err(errno) = check_path(path) {
         return (Answer::refused(errno, NO_DETAIL), Vec::new());
     }
-    if let Some(errno) = table.handle_errno(handle) {
+    let checks = handle_is_checked(mark, path, how.resolve);
+    if let Some(errno) = table.handle_errno(handle).filter(|_| checks) {
         return (Answer::refused(errno, NO_DETAIL), Vec::new());
     }
-    let top = Place { mount: 0, node: table.mounts.first().map_or(0, |mount| mount.root) };
+    let top = table.top();
     let in_root = how.resolve & IN_ROOT != 0;
     let path_ends_in_slash = path.ends_with(b"/");
     let walk = Walk {

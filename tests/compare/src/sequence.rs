@@ -1,9 +1,10 @@
 //! A sequence of calls on descriptors, and its comparison.
 
 use crate::case::{added_bits, same, with_added, Alike, Difference};
-use crate::descriptors::{refused, Descriptors, Reply, EMFILE, SLOTS};
+use crate::descriptors::{refused, Descriptors, Held, Reply, EMFILE, SLOTS};
 use crate::resolver::{self, accept, resolve_field, second_answer, Restrictions, Table};
 use crate::subject::{Slots, Subject, Way};
+use crate::tried::Tried;
 use data::sequence::{Open, Step};
 
 /// Descriptors started over an image, and the calls on them in order.
@@ -23,6 +24,10 @@ pub struct Told {
     pub marked: bool,
     /// Whether all 64 were open before it.
     pub full: bool,
+    /// What an open from an open number comes to its handle with, if it does.
+    pub tried: Option<Tried>,
+    /// Whether an open from a closed number has an absolute path.
+    pub closed: Option<bool>,
     /// Whether a second open with restrictions added was compared, and stopped by them.
     pub second: bool,
     pub stopped: bool,
@@ -166,10 +171,15 @@ impl<'a> Run<'a> {
 
     fn step(&mut self, step: &Step, is_sampled: bool) -> Result<Told, Difference> {
         let before = self.now.clone();
-        let [errno, ..] = self.both_ways(step)?;
+        let reply = self.both_ways(step)?;
+        let errno = reply[0];
         if is_sampled {
             self.short_output(&before, step)?;
             self.cut_image(&before, step)?;
+        }
+        let (tried, closed) = self.tried(&before.expected, step);
+        if let (Step::Open(open), Some(Tried { is_checked: false, .. })) = (step, tried) {
+            self.through_another_number(&before, open, &reply)?;
         }
         let (second, stopped) = match step {
             Step::Open(open) if open.added != 0 || open.added_mark => {
@@ -183,7 +193,37 @@ impl<'a> Run<'a> {
         };
         let (call, full) = (step.name(), before.expected.is_full());
         let marked = before.expected.is_marked(step.number());
-        Ok(Told { call, errno, is_own, marked, full, second, stopped })
+        Ok(Told { call, errno, is_own, marked, full, tried, closed, second, stopped })
+    }
+
+    /// An open whose handle is not checked, from another number that is open and not marked:
+    /// that makes no difference.
+    fn through_another_number(
+        &mut self,
+        before: &State,
+        open: &Open,
+        reply: &Reply,
+    ) -> Result<(), Difference> {
+        let mut others = before.expected.open_ones();
+        others.retain(|number| *number != open.number && !before.expected.is_marked(*number));
+        let Some(number) = others.pop() else { return Ok(()) };
+        let what = format!("the same from {number}, whose handle is not checked");
+        let other = Step::Open(Open { number, ..open.clone() });
+        self.ask(&what, reply, &mut before.slots.clone(), &other, Way::CHECKED)
+    }
+
+    /// What an open comes to its handle with; from a closed number, whether its path is absolute.
+    fn tried(&self, before: &Descriptors, step: &Step) -> (Option<Tried>, Option<bool>) {
+        match step {
+            Step::Open(open) => match (before.admit(open), before.held(open.number)) {
+                (Ok(Held { place, mark }), _) => {
+                    (Tried::of(self.table, place, mark, &open.path, &open.how), None)
+                }
+                (Err(_), None) => (None, Some(open.path.starts_with(b"/"))),
+                _ => (None, None),
+            },
+            _ => (None, None),
+        }
     }
 
     /// The call itself; an open over an accepted image without the check too.
@@ -253,15 +293,25 @@ impl<'a> Run<'a> {
             let reply = marked.act(self.table, &set_mark);
             self.ask("demand 3: the mark set", &reply, &mut slots, &set_mark, Way::CHECKED)?;
         }
-        let (second, stopped) = self.second_reply(&before.expected, open);
         let how = with_added(&open.how, open.added);
         let again = Step::Open(Open { how, ..open.clone() });
+        let own = marked.act(self.table, &again);
+        let (second, stopped) = match self.is_good(&before.expected, open.number) {
+            true => self.second_reply(&before.expected, open),
+            // Demand 3 speaks of good handles: the mark has a bad one checked that was not.
+            false => (own, false),
+        };
         let what = "demand 3: the open with restrictions added";
         self.ask(what, &second, &mut slots, &again, Way::CHECKED)?;
         // The walk itself, run with the added ones, must say the same.
-        let own = marked.act(self.table, &again);
         same("demand 3 within the comparing resolver itself", &second, own.to_vec())?;
         Ok(stopped)
+    }
+
+    /// Whether a number holds a good handle.
+    fn is_good(&self, descriptors: &Descriptors, number: u64) -> bool {
+        let held = descriptors.held(number).zip(self.table);
+        held.is_some_and(|(held, table)| table.handle_errno(held.place).is_none())
     }
 
     /// The second reply, worked out from the first walk's events alone, and whether one of

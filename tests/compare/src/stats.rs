@@ -1,11 +1,13 @@
 //! How often each kind of answer, rule, event and count occurred.
 
+mod handles;
 mod lookups;
 mod sequences;
 
 use crate::case::Alike;
 use crate::descriptors::{EMFILE, ENOTTY};
 use crate::resolver::{Answer, Event, Met};
+use handles::Handles;
 use lookups::Lookups;
 use sequences::Sequences;
 use std::collections::BTreeMap;
@@ -27,6 +29,7 @@ pub struct Stats {
     stops: BTreeMap<&'static str, u64>,
     components: BTreeMap<(u64, String), u64>,
     links: BTreeMap<(u64, String), u64>,
+    handles: Handles,
     pub descriptors: Sequences,
     pub lookups: Lookups,
 }
@@ -99,9 +102,12 @@ impl Stats {
                 };
                 *self.rules.entry((*rule, which)).or_default() += 1;
             }
-            Alike::Call { first, events, second, stopped } => {
+            Alike::Call { first, events, second, stopped, tried } => {
                 self.calls += 1;
                 self.note_call(first, events);
+                if let Some(tried) = tried {
+                    self.handles.note(tried, first.numbers()[0]);
+                }
                 *self.second.entry(second.numbers()[0]).or_default() += 1;
                 if let Some(event) = stopped {
                     self.stopped += 1;
@@ -168,7 +174,8 @@ impl Stats {
             .map(event_name)
             .filter(|name| !self.events.contains_key(name) || !self.stops.contains_key(name))
             .map(String::from);
-        let others = self.descriptors.missing().into_iter().chain(self.lookups.missing());
+        let handles = self.handles.missing_in_calls().into_iter();
+        let others = handles.chain(self.descriptors.missing()).chain(self.lookups.missing());
         rules.chain(answers).chain(events).chain(others).collect()
     }
 
@@ -182,6 +189,7 @@ impl Stats {
             line(&label, *count, self.tables);
         }
         self.print_answers();
+        self.handles.print("calls");
         self.print_walks();
         self.descriptors.print();
         self.lookups.print();

@@ -71,7 +71,7 @@ fn the_lowest_free_number_is_given() {
 fn a_number_that_is_not_open_is_refused_before_all_else() {
     let mut descriptors = bench();
     for number in [1, 63, 64, 1 << 32, u64::MAX] {
-        for path in [&b"lab"[..], b"", b"\0", &[b'/'; 4_096]] {
+        for path in [&b"lab"[..], b"/lab", b"", b"\0", &[b'/'; 4_096]] {
             for how in [&[0; 24][..], &[], &[255; 24], &[0; 4_097]] {
                 assert_eq!(own(descriptors.open_raw(number, true, path, how)), Errno::EBADF);
                 assert_eq!(own(descriptors.open_raw(number, false, path, how)), Errno::EBADF);
@@ -155,7 +155,7 @@ fn marks_are_kept_and_not_shared() {
     assert!(!is_marked(lab, &script));
 }
 
-/// "setting it on a non-directory is ENOTTY (25)".
+/// "setting it on a non-directory is ENOTTY (25)". Only an absolute path does without the handle.
 #[test]
 fn files_and_links_are_held_but_lead_nowhere() {
     let mut descriptors = bench();
@@ -163,10 +163,15 @@ fn files_and_links_are_held_but_lead_nowhere() {
         let number = given(descriptors.open(0, path, how)).unwrap();
         let before = descriptors.clone();
         assert_eq!(own(descriptors.set_mark(number)), Errno::ENOTTY);
-        for path in [".", "/", "..", "x"] {
+        for path in [".", "..", "x"] {
             assert_eq!(own(descriptors.open(number, path, NOTHING)), Errno::ENOTDIR);
         }
+        assert_eq!(own(descriptors.open(number, "/", Resolve::IN_ROOT)), Errno::ENOTDIR);
+        assert_eq!(own(descriptors.open(number, "/", Resolve::BENEATH)), Errno::EXDEV);
         assert_eq!(descriptors, before);
+        let lab = descriptors.open(number, "/lab", NOTHING).unwrap();
+        assert_eq!(lab.to_string(), "2 = (0,1); 1 component, 0 links");
+        descriptors.close(lab.descriptor).unwrap();
         let copy = descriptors.duplicate(number).unwrap();
         assert_eq!(own(descriptors.set_mark(copy)), Errno::ENOTTY);
         descriptors.close(number).unwrap();
@@ -175,7 +180,8 @@ fn files_and_links_are_held_but_lead_nowhere() {
     assert_eq!(descriptors, bench());
 }
 
-/// A magic link leads to a covered directory, which is no handle. It is a directory all the same.
+/// A magic link leads to a covered directory, which is no good handle, and is checked if it is
+/// marked. It is a directory all the same.
 #[test]
 fn a_covered_directory_is_held_but_leads_nowhere() {
     let mut image = IMAGE.to_vec();
@@ -184,10 +190,14 @@ fn a_covered_directory_is_held_but_leads_nowhere() {
     let mut descriptors = Table::new(&image).unwrap().descriptors();
     let opened = descriptors.open(0, "lab/cal/fd", NOTHING).unwrap();
     assert_eq!(opened.to_string(), "1 = (0,7); 3 components, 1 link");
-    assert_eq!(own(descriptors.open(1, "/", NOTHING)), Errno::EBADF);
-    descriptors.set_mark(1).unwrap();
     assert_eq!(own(descriptors.open(1, ".", NOTHING)), Errno::EBADF);
-    assert_eq!(descriptors.duplicate(1), Ok(2));
+    // ".." at the handle, which nothing forbids.
+    let lab = descriptors.open(1, "/lab/cal/fd/..", NOTHING).unwrap();
+    assert_eq!(lab.to_string(), "2 = (0,1); 4 components, 1 link");
+    descriptors.set_mark(1).unwrap();
+    assert_eq!(own(descriptors.open(1, "/", NOTHING)), Errno::EBADF);
+    assert_eq!(own(descriptors.open(1, ".", NOTHING)), Errno::EBADF);
+    assert_eq!(descriptors.duplicate(1), Ok(3));
 }
 
 #[test]

@@ -1,7 +1,8 @@
 //! What a reply does not show by itself: what stands in the slots.
 
 use super::*;
-use crate::resolver::accept;
+use crate::resolver::{accept, EUCLEAN, O_NOFOLLOW, O_PATH};
+use data::image::Tree;
 use data::{how, BENCH_TREE};
 
 fn open(number: u64, path: &str, flags: u64, mark: bool) -> Step {
@@ -107,4 +108,46 @@ fn what_is_opened_through_a_marked_one_is_unmarked_unless_asked() {
     let slots = [0, 1, 2, 3].map(|number| descriptors.held(number));
     assert_eq!(slots, [held(0, true), held(1, false), held(1, true), held(0, false)]);
     refuses(&descriptors, open(2, "..", 0, false), [2, 255, 0, 0, 1, 0, 0]);
+}
+
+/// A file and a link that are held, and a covered directory that a magic link leads to.
+fn bad_ones() -> (Vec<u8>, Vec<Step>) {
+    let (mut tree, top) = Tree::mounted();
+    let covered = tree.named_directory(top, "c");
+    tree.named_file(top, "f");
+    tree.named_link(top, "l", "f");
+    let magic = tree.magic(0, covered);
+    tree.name(top, "m", magic);
+    tree.mount(top, 0, covered);
+    let unfollowed = O_PATH | O_NOFOLLOW;
+    let opens = [("f", 0), ("l", unfollowed), ("m", unfollowed), ("m", 0)];
+    (tree.image(), opens.map(|(path, flags)| open(0, path, flags, false)).to_vec())
+}
+
+#[test]
+fn an_absolute_path_is_opened_through_any_open_number() {
+    let (image, steps) = bad_ones();
+    let table = accept(&image).ok();
+    let mut descriptors = Descriptors::start(table.as_ref());
+    let mut act = |step: Step| descriptors.act(table.as_ref(), &step);
+    steps.into_iter().for_each(|step| assert_eq!(act(step)[0], 0));
+    for (number, errno) in [(1, 20), (2, 20), (3, 20), (4, 9)] {
+        assert_eq!(act(open(number, ".", 0, false)), refused(errno));
+        assert_eq!(act(open(number, "/", 0, false)), [0, 255, 0, 0, 0, 0, 5]);
+        assert_eq!(act(Step::Close(5))[0], 0);
+        // The mark that is asked for is not the handle's.
+        assert_eq!(act(open(number, "/c", O_DIRECTORY, true)), [0, 255, 1, 0, 1, 0, 5]);
+        assert_eq!(act(Step::Close(5))[0], 0);
+        assert_eq!(act(open(number, "/x", 0, false)), [2, 255, 0, 0, 1, 0, 0]);
+    }
+    // "EBADF for a closed number or one above 63, whatever the path"
+    for number in [5, 64, u64::MAX] {
+        assert_eq!(act(open(number, "/", 0, false)), refused(EBADF));
+    }
+    // The covered directory once it is marked is checked, before Start.
+    assert_eq!(act(Step::SetMark(4))[0], 0);
+    assert_eq!(act(open(4, "/", 0, false)), refused(EBADF));
+    assert_eq!(act(open(4, ".", 0, false)), refused(EBADF));
+    assert_eq!(act(Step::SetMark(0))[0], 0);
+    assert_eq!(act(open(0, "/", 0, false)), refused(2));
 }

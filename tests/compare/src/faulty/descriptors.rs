@@ -103,7 +103,7 @@ impl Descriptors<'_> {
         if is_unfit && self.has(Fault::MarkBeforeNumber) {
             return Err(EINVAL);
         }
-        let index = self.index(open.number)?;
+        let index = self.through(open)?;
         if is_unfit && !self.has(Fault::MarkAfterWalk) {
             return Err(EINVAL);
         }
@@ -124,10 +124,24 @@ impl Descriptors<'_> {
         self.found(index, open.mark, answer)
     }
 
+    /// The index of the number that is opened through.
+    fn through(&self, open: &Open) -> Result<usize, u64> {
+        let unneeded = self.has(Fault::ClosedUnneeded) && open.path.starts_with(b"/");
+        self.index(open.number).or_else(|errno| if unneeded { Ok(63) } else { Err(errno) })
+    }
+
     fn resolve(&self, index: usize, open: &mut Open) -> [u64; 6] {
         let slot = self.slots[index];
         let mark = slot & MARK != 0 && !self.has(Fault::MarkUnread);
-        super::resolve(self.fault, self.image, place(slot), mark, &mut open.path, &open.how)
+        let resolve =
+            |path| super::resolve(self.fault, self.image, place(slot), mark, path, &open.how);
+        let answer = resolve(&mut open.path);
+        if self.has(Fault::AskedChecked) && open.mark && answer[0] == 0 {
+            // Any relative path has the handle checked.
+            let checked = resolve(&mut [b'.']);
+            return if checked[0] == 0 { answer } else { checked };
+        }
+        answer
     }
 
     /// Gives the place that was found a number.

@@ -8,6 +8,7 @@
 //! its inputs.
 
 mod descriptors;
+mod handle;
 mod how;
 mod lookup;
 mod table;
@@ -17,7 +18,7 @@ pub use descriptors::{act, start};
 pub use lookup::lookup;
 
 use crate::faults::Fault;
-use crate::resolver::{EINVAL, ENAMETOOLONG, ENOENT, EUCLEAN};
+use crate::resolver::{BENEATH, EINVAL, ENAMETOOLONG, ENOENT, EUCLEAN, EXDEV};
 use how::{both_scopes, fields};
 use table::Raw;
 use walk::Walk;
@@ -62,16 +63,19 @@ fn answer(
     };
     let cut = if raw.has(Fault::HandleCut) { 0xFFFF_FFFF } else { u64::MAX };
     let handle = (handle.0 & cut, handle.1 & cut);
-    match bad_call(&raw, handle, path, resolve) {
+    match bad_call(&raw, handle, mark, path, resolve) {
         Some(errno) => [errno, 255, 0, 0, 0, 0],
         None => Walk::new(raw, handle, mark, path, (flags, resolve)).answer(),
     }
 }
 
 /// What is wrong with path or handle.
-fn bad_call(raw: &Raw, handle: (u64, u64), path: &[u8], resolve: u64) -> Option<u64> {
+fn bad_call(raw: &Raw, handle: (u64, u64), mark: bool, path: &[u8], resolve: u64) -> Option<u64> {
     let longest = 4095 - usize::from(raw.has(Fault::PathBound));
-    if raw.has(Fault::ZeroByteFirst) && path.contains(&0) {
+    let beneath = !mark && resolve & BENEATH != 0 && path.starts_with(b"/");
+    if raw.has(Fault::BeneathBeforePath) && beneath {
+        Some(EXDEV)
+    } else if raw.has(Fault::ZeroByteFirst) && path.contains(&0) {
         Some(EINVAL)
     } else if path.len() > longest {
         Some(ENAMETOOLONG)
@@ -80,6 +84,6 @@ fn bad_call(raw: &Raw, handle: (u64, u64), path: &[u8], resolve: u64) -> Option<
     } else if path.contains(&0) || both_scopes(resolve) {
         Some(EINVAL)
     } else {
-        raw.bad_handle(handle)
+        handle::refusal(raw, handle, mark, path, resolve)
     }
 }

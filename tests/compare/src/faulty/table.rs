@@ -47,8 +47,12 @@ impl<'a> Raw<'a> {
         self.field(20 + 12 * node + 8, 4)
     }
 
-    /// root, parent, point, zero
+    /// root, parent, point, zero; all 0 where there is no such mount, which matters only
+    /// when a fault let a bad handle pass
     pub fn mount(&self, mount: u64) -> [u64; 4] {
+        if mount >= self.mounts {
+            return [0; 4];
+        }
         let at = 20 + 12 * self.nodes + 8 * mount;
         [0, 2, 4, 6].map(|field| self.field(at + field, 2))
     }

@@ -118,7 +118,10 @@ impl<'a> Walk<'a> {
     fn all(&mut self) -> Result<(), u64> {
         if self.rest().first() == Some(&b'/') {
             if !(self.set(IN_ROOT) && self.has(Fault::NoStartInRoot)) {
-                self.outward(false)?;
+                let met = self.outward(false);
+                let counted = met == Err(EXDEV) && self.has(Fault::StartCounted);
+                self.components += u64::from(counted);
+                met?;
             }
             let elsewhere = self.root().0 != self.handle.0;
             if self.has(Fault::NoXdevAtStart) && self.set(NO_XDEV) && elsewhere {

@@ -13,12 +13,20 @@ fn subset(dice: &mut Dice, shares: &[(u64, usize)]) -> u64 {
     taken.fold(0, |bits, (bit, _)| bits | bit)
 }
 
+/// The scopes, as often as they are usual.
+pub const SCOPES: [u64; 10] = [0, 0, 0, 0, 0, 0, IN_ROOT, IN_ROOT, IN_ROOT, BENEATH];
+
 /// An open_how that is accepted.
 pub fn good_how(dice: &mut Dice) -> Vec<u8> {
+    let scope = dice.pick(&SCOPES);
+    scoped_how(dice, scope)
+}
+
+/// One with this scope.
+pub fn scoped_how(dice: &mut Dice, scope: u64) -> Vec<u8> {
     let flags = [(O_DIRECTORY, 12), (O_NOFOLLOW, 25), (O_PATH, 30), (O_CLOEXEC, 10)];
     let flags = subset(dice, &flags);
     let bits = [(NO_XDEV, 10), (NO_MAGICLINKS, 8), (NO_SYMLINKS, 5)];
-    let scope = dice.pick(&[0, 0, 0, 0, 0, 0, IN_ROOT, IN_ROOT, IN_ROOT, BENEATH]);
     let mut bytes = how(flags, subset(dice, &bits) | scope);
     if dice.percent(8) {
         // Every subset alike.

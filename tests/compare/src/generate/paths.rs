@@ -144,18 +144,33 @@ fn component(dice: &mut Dice, chosen: Option<&Named>) -> Vec<u8> {
     }
 }
 
-pub fn good_path(dice: &mut Dice, table: &Table, handle: Place, in_root: bool) -> Vec<u8> {
+/// Where a path is grown from, and whether it is absolute.
+#[derive(Clone, Copy)]
+pub struct Origin {
+    pub handle: Place,
+    pub in_root: bool,
+    pub is_absolute: bool,
+}
+
+/// Absolute paths that lead to the root.
+const TO_ROOT: [&str; 9] = ["/", "//", "///", "/.", "/..", "//..", "/../", "/../..", "/../../"];
+
+pub fn good_path(dice: &mut Dice, table: &Table, origin: Origin) -> Vec<u8> {
     // A body of the longest length is as long a path as there can be.
     let long = table.nodes.iter().find(|node| node.kind == LINK && node.count == 4095);
     if let Some(node) = long.filter(|_| dice.percent(25)) {
         return table.text_part(node.first, node.count).unwrap_or(b"/").to_vec();
     }
+    let Origin { handle, in_root, is_absolute } = origin;
     let how = how(0, if in_root { IN_ROOT } else { 0 });
     let mut growing = Growing { table, handle, how, path: Vec::new() };
-    if dice.percent(16) {
+    if is_absolute && dice.percent(15) {
+        return dice.pick(&TO_ROOT).into();
+    }
+    if is_absolute {
         growing.path.extend(slashes(dice));
         if dice.percent(10) {
-            return growing.path;
+            growing.path.extend(b"../");
         }
     }
     let steps = dice.pick(&[1, 2, 2, 3, 3, 4, 4, 5, 6, 8, 12]);

@@ -5,7 +5,7 @@
 
 use super::damage::damage;
 use super::hows::{bad_how, good_how};
-use super::paths::{bad_path, good_path};
+use super::paths::{bad_path, good_path, Origin};
 use super::tables::table;
 use crate::case::ADDABLE;
 use crate::descriptors::{Descriptors, SLOTS};
@@ -168,19 +168,27 @@ impl<'a> Script<'a> {
         self.table?.handle_errno(place).is_none().then_some(place)
     }
 
-    /// A number to open through: mostly one where there is more to be had than a refusal,
-    /// sometimes one of a covered directory.
-    fn through(&self, dice: &mut Dice) -> u64 {
-        let is_covered = |number: &u64| {
-            let place = self.descriptors.held(*number).map(|held| held.place);
-            place.zip(self.table).is_some_and(|(place, table)| table.covering(place).is_some())
+    /// One of the open numbers that hold such a place, if any does.
+    fn holding(&self, dice: &mut Dice, is_such: impl Fn(&Table, Place) -> bool) -> Option<u64> {
+        let table = self.table?;
+        let holds = |number: &u64| {
+            self.descriptors.held(*number).is_some_and(|held| is_such(table, held.place))
         };
-        if dice.percent(8) {
-            let mut covered = self.descriptors.open_ones();
-            covered.retain(is_covered);
-            if let Some(number) = dice.choose(&covered) {
-                return *number;
-            }
+        let mut numbers = self.descriptors.open_ones();
+        numbers.retain(holds);
+        dice.choose(&numbers).copied()
+    }
+
+    /// A number to open through: mostly one where there is more to be had than a refusal,
+    /// sometimes one of a bad handle, covered or no directory.
+    fn through(&self, dice: &mut Dice) -> u64 {
+        let bad = match dice.below(100) {
+            0..=9 => self.holding(dice, |table, place| table.covering(place).is_some()),
+            10..=17 => self.holding(dice, |table, place| !table.is_directory(place.node)),
+            _ => None,
+        };
+        if let Some(number) = bad {
+            return number;
         }
         let mut number = self.number(dice);
         for _ in 0..3 {
@@ -206,15 +214,21 @@ impl<'a> Script<'a> {
     }
 
     fn path(&self, dice: &mut Dice, number: u64, in_root: bool) -> Vec<u8> {
-        let (Some(table), Some(place)) = (self.table, self.good_place(number)) else {
-            return dice.pick(&[".", ".", "..", "a", "/", "/a", "", "a\0"]).into();
+        let Some(table) = self.table else { return dice.pick(&[".", "/", "", "a\0"]).into() };
+        let Some(place) = self.good_place(number) else {
+            let origin = Origin { handle: table.top(), in_root: false, is_absolute: true };
+            return match dice.percent(50) {
+                true => good_path(dice, table, origin),
+                false => dice.pick(&[".", "..", "a", "/", "/a", "", "a\0", "/\0"]).into(),
+            };
         };
+        let origin = Origin { handle: place, in_root, is_absolute: dice.percent(16) };
         let path = match dice.below(100) {
             0..=19 => b".".to_vec(),
             20..=36 => b"..".to_vec(),
             37..=74 => self.name(dice, place).unwrap_or(b"/".to_vec()),
             75..=77 => dice.pick(&["/", "/a", "/c", "missing", "./"]).into(),
-            _ => good_path(dice, table, place, in_root),
+            _ => good_path(dice, table, origin),
         };
         if dice.percent(3) {
             return bad_path(dice, path);

@@ -69,6 +69,33 @@ fn faults_of_descriptors_are_found_by_replies_alone() {
     }
 }
 
+/// Other handles and restrictions added aside.
+#[test]
+fn faults_of_the_handle_are_found_by_answers_alone() {
+    for fault in faults(Fault::HandleAlways, Fault::StartCounted) {
+        let mut subject = Planted(Some(*fault));
+        let mut differs = |case| match case {
+            Case::Call(call) => call.ask(&mut subject) != call.answer().0.numbers(),
+            _ => false,
+        };
+        let mut cases = Cases::new(2, Wanted { calls: 5_000, ..Wanted::default() });
+        assert!(cases.any(|numbered| differs(numbered.case)), "{fault:?}");
+    }
+}
+
+/// Also where the call itself is answered right.
+#[test]
+fn another_handle_shows_that_one_is_checked() {
+    let mut subject = Planted(Some(Fault::HandleAlways));
+    let wanted = Wanted { calls: 600, sequences: 60, ..Wanted::default() };
+    let found =
+        Cases::new(2, wanted).filter_map(|numbered| numbered.case.compare(&mut subject).err());
+    let found: Vec<String> = found.map(|difference| difference.what).collect();
+    for told in ["the same from (", "open: the same from "] {
+        assert!(found.iter().any(|what| what.contains(told)), "{told}");
+    }
+}
+
 /// The rooms and the digits aside; but a name that was changed shows in no answer.
 #[test]
 fn faults_of_lookups_are_found_by_answers_alone() {
@@ -82,6 +109,43 @@ fn faults_of_lookups_are_found_by_answers_alone() {
         };
         let mut cases = Cases::new(2, Wanted { lookups: 3_000, ..Wanted::default() });
         assert!(cases.any(|numbered| differs(numbered.case)), "{fault:?}");
+    }
+}
+
+/// Handles out of range, each with absolute and relative paths.
+#[test]
+fn handles_of_every_number_are_tried() {
+    let kinds = "mount-past mount-16 mount-32 mount-cut-16 mount-cut-32 mount-max mount-high \
+                 node-past node-16 node-32 node-cut-16 node-cut-32 node-max node-high";
+    let pairs = kinds.split(' ').flat_map(|kind| [(kind, false), (kind, true)]);
+    let mut missing: Vec<(&str, bool)> = pairs.collect();
+    for numbered in Cases::new(7, Wanted { calls: 6_000, ..Wanted::default() }) {
+        let Case::Call(call) = numbered.case else { continue };
+        let Ok(table) = accept(&call.image) else { continue };
+        let counts = [table.mounts.len() as u64, table.nodes.len() as u64];
+        let is_tried = |kind: &str, is_absolute: bool| {
+            let (field, which) = kind.split_once('-').unwrap_or_default();
+            let (number, count) = match field {
+                "mount" => (call.mount, counts[0]),
+                _ => (call.node, counts[1]),
+            };
+            call.path.starts_with(b"/") == is_absolute && is_out_of_range(which, number, count)
+        };
+        missing.retain(|(kind, is_absolute)| !is_tried(kind, *is_absolute));
+    }
+    assert_eq!(missing, []);
+}
+
+/// Whether a number is out of range in this way.
+fn is_out_of_range(which: &str, number: u64, count: u64) -> bool {
+    match which {
+        "past" => number == count,
+        "16" => number == 1 << 16,
+        "32" => number == 1 << 32,
+        "cut-16" => (0..count).contains(&number.wrapping_sub(1 << 16)),
+        "cut-32" => (0..count).contains(&number.wrapping_sub(1 << 32)),
+        "max" => number == u64::MAX,
+        _ => number > 1 << 33 && number < u64::MAX,
     }
 }
 

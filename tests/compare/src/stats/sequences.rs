@@ -1,5 +1,6 @@
 //! How often each call on descriptors and each reply to it occurred.
 
+use super::handles::Handles;
 use super::{errno_name, line};
 use crate::descriptors::EMFILE;
 #[cfg(test)]
@@ -25,6 +26,10 @@ pub struct Sequences {
     /// Opens compared with restrictions added, and how many these stopped.
     seconds: u64,
     stopped: u64,
+    /// What the numbers opened through hold.
+    handles: Handles,
+    /// Opens from closed numbers, by whether the path is absolute.
+    closed: [u64; 2],
 }
 
 impl Sequences {
@@ -40,6 +45,12 @@ impl Sequences {
             }
             if told.call == "open" && told.marked {
                 self.marked[usize::from(told.errno != 0)] += 1;
+            }
+            if let Some(tried) = &told.tried {
+                self.handles.note(tried, told.errno);
+            }
+            if let Some(is_absolute) = told.closed {
+                self.closed[usize::from(is_absolute)] += 1;
             }
             self.seconds += u64::from(told.second);
             self.stopped += u64::from(told.stopped);
@@ -59,10 +70,12 @@ impl Sequences {
         let full = [2, 7, 9, 18, 20, 22, 36, 40].map(|errno| ("open", errno));
         let full = [&full[..], &[("dup", 9)]].concat();
         let full = full.into_iter().filter(|reply| !self.full.contains_key(reply));
-        let counts = [self.refused, self.filled, self.marked[0], self.marked[1], self.stopped];
-        let none = counts.contains(&0).then(|| format!("one of {counts:?}"));
+        let counts = [&[self.refused, self.filled, self.stopped][..], &self.marked, &self.closed];
+        let none = counts.concat().contains(&0).then(|| format!("one of {counts:?}"));
         let replies = replies.map(|reply| format!("{reply:?}"));
-        replies.chain(full.map(|reply| format!("{reply:?}, all open"))).chain(none).collect()
+        let full = full.map(|reply| format!("{reply:?}, all open"));
+        let held = self.handles.missing_in_opens().into_iter().map(|held| format!("open: {held}"));
+        replies.chain(full).chain(none).chain(held).collect()
     }
 
     pub fn print(&self) {
@@ -83,6 +96,10 @@ impl Sequences {
         println!("opens through a marked one:");
         line(&"done", self.marked[0], *steps);
         line(&"refused", self.marked[1], *steps);
+        self.handles.print("opens");
+        println!("opens from a closed number:");
+        line(&"relative", self.closed[0], *steps);
+        line(&"absolute", self.closed[1], *steps);
         println!("opens once more with restrictions added:");
         line(&"as before", self.seconds - self.stopped, *steps);
         line(&"stopped", self.stopped, *steps);
