@@ -40,9 +40,9 @@ use Rattle.laws.proofs.Refusals.{unrefused}
 use Rattle.theorems.specs.Bounded.{FoundInside}
 use Rattle.theorems.proofs.Bounds.{every-place-inside}
 use Rattle.parts.specs.Searches.{foundOr}
-use Rattle.descriptors.specs.Slots.{handleBy, slotBy, slotsBy}
-use Rattle.descriptors.specs.Replies.{Serves, Fits, FoundFits}
-use Rattle.descriptors.proofs.SlotLaws.{slot-closed, slot-held, slots-set, free-found, free-none, all-closed, rest-behind}
+use Rattle.slots.specs.Slots.{handleBy, slotBy, slotsBy, Fits}
+use Rattle.descriptors.specs.Replies.{Serves, FoundFits}
+use Rattle.slots.proofs.SlotLaws.{slot-closed, slot-held, slots-set, free-found, free-none, all-closed, rest-behind}
 
 -- whether the mark is asked in vain
 module _ (marked : Bool) (how : List ℕ) where

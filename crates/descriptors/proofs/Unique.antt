@@ -11,9 +11,9 @@ use Rattle.model.specs.Descriptors.{Slot, closed, holding, Served}
 use Rattle.model.specs.declared.Handle.{Handle}
 use Rattle.model.specs.declared.Reply.{Reply}
 use Rattle.laws.proofs.DescriptorLaws.{holding-not}
-use Rattle.descriptors.specs.Slots.{handleBy, slotBy, slotsBy}
+use Rattle.slots.specs.Slots.{handleBy, slotBy, slotsBy}
 use Rattle.descriptors.specs.Replies.{Serves}
-use Rattle.descriptors.proofs.SlotLaws.{slot-closed, slot-held}
+use Rattle.slots.proofs.SlotLaws.{slot-closed, slot-held}
 
 same-bit : (a b : ℕ) → eqb (a % 2) 1 ≡ eqb (b % 2) 1 → a % 2 ≡ b % 2
 same-bit a b e = by (eqb (b % 2) 1) refl

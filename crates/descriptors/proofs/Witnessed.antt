@@ -9,7 +9,7 @@ use Rattle.model.specs.Descriptors.{duplicate, close, slotAt, lowestFree, serve
 use Rattle.model.specs.declared.Refusal.{Refusal}
 use Rattle.model.specs.declared.Reply.{Reply}
 use Rattle.model.specs.declared.Reply.the-variants.{Duplicated, Done, Refused}
-use Rattle.descriptors.specs.Slots.{slotBy, slotsBy}
+use Rattle.slots.specs.Slots.{slotBy, slotsBy}
 use Rattle.descriptors.specs.Sequences.{Made, InOrder}
 
 abbrev pub started : List ℕ

@@ -1,16 +1,15 @@
 -- What a function of the descriptor table promises.
-use Prim.Native.Nat.{ℕ, _<_}
+use Prim.Native.Nat.{ℕ}
 use mathlib.Core.List.{List}
 use mathlib.Core.Path.{_≡_}
 use lib.ListN.{drop}
 use Rattle.model.specs.Descriptors.{Served}
 use Rattle.model.specs.declared.Answer.{Answer}
 use Rattle.model.specs.declared.Answer.the-variants.{Found, Refused}
-use Rattle.model.specs.declared.Place.{Place}
 use Rattle.model.specs.declared.Refusal.{Refusal}
 use Rattle.model.specs.declared.Reply.{Reply}
 use Rattle.model.specs.declared.Reply.the-variants.{Refused as Reply-refused}
-use Rattle.descriptors.specs.Slots.{slotsBy}
+use Rattle.slots.specs.Slots.{slotsBy, Fits}
 
 -- The numbers before and after a call and its reply are what the definitions say: the reply, the 64 slots, "A refusal leaves all 64 as they
 -- were" (RULES 17.9), number by number, and what stands behind the 64 stays.
@@ -20,11 +19,7 @@ pub record Serves (served : Served) (before after : List ℕ) (r : Reply) : Type
   pub refusal-keeps : (e : Refusal) → r ≡ Reply-refused e → after ≡ before
   pub rest-stays : drop 64 after ≡ drop 64 before
 
--- a place whose mount and node fit into a slot's number
-abbrev pub Fits : Place → Type 0
-Fits p = (p .mount < 4294967296) × (p .node < 2147483647)
-
--- an answer whose place does, if it found one
+-- an answer whose place, if it found one, fits into a slot's number
 abbrev pub FoundFits : Answer → Type 0
 FoundFits (Found r) = Fits (r .place)
 FoundFits (Refused r) = Unit {0}

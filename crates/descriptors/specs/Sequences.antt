@@ -4,7 +4,7 @@ use mathlib.Core.List.{List, [], _∷_}
 use mathlib.Core.Path.{_≡_}
 use Rattle.model.specs.Descriptors.{DescriptorCall, serve, repliesTo, slotsAfter}
 use Rattle.model.specs.declared.Reply.{Reply}
-use Rattle.descriptors.specs.Slots.{slotsBy}
+use Rattle.slots.specs.Slots.{slotsBy}
 use Rattle.descriptors.specs.Replies.{Serves}
 
 -- a call that was made: what was called, the reply, and the numbers after it

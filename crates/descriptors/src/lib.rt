@@ -1,14 +1,5 @@
 // The descriptor table: 64 lent numbers, each a slot that is closed or holds a handle. Whatever numbers they are, they stand for some 64
 // slots. A refusal leaves them as they were.
-pub mod slots;
-
-use crate::slots::CLOSED;
-use crate::slots::DESCRIPTORS;
-use crate::slots::close_all;
-use crate::slots::held;
-use crate::slots::lowest_free;
-use crate::slots::number_of;
-use crate::slots::slot_at;
 use fields::u16_within;
 use fields::u64_at;
 use image::records::mount_root;
@@ -27,6 +18,13 @@ use open_how::O_DIRECTORY;
 use open_how::has;
 use resolver::resolve;
 use resolver::resolve_accepted;
+use slots::CLOSED;
+use slots::DESCRIPTORS;
+use slots::close_all;
+use slots::held;
+use slots::lowest_free;
+use slots::number_of;
+use slots::slot_at;
 use table::check;
 ghost use mathlib.Core.Bool.{true};
 ghost use mathlib.Core.List.{List};
@@ -39,7 +37,7 @@ ghost use Rattle.model.specs.TableCheck.{tableCheck};
 ghost use Rattle.model.specs.Resolve.{callOf};
 ghost use Rattle.model.specs.Descriptors.{openPath, duplicate, close, setMark, start, askedInVain, answering, serve};
 ghost use Rattle.model.specs.declared.Verdict.the-variants.{Accepted};
-ghost use Rattle.descriptors.specs.Slots.{slotsBy};
+ghost use Rattle.slots.specs.Slots.{slotsBy};
 ghost use Rattle.descriptors.specs.Replies.{Serves, FoundFits};
 
 // A refusal of the descriptor table's own: both counts 0, no detail (RULES 17.8).

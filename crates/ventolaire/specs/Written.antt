@@ -11,7 +11,7 @@ use Rattle.model.specs.Resolve.{Call, callOf, resolve}
 use Rattle.model.specs.Lookup.{lookupName, lookupNumbers}
 use Rattle.model.specs.Descriptors.{start, Served, replyNumbers}
 use Rattle.resolver.specs.Answering.{Kept}
-use Rattle.descriptors.specs.Slots.{slotsBy}
+use Rattle.slots.specs.Slots.{slotsBy}
 use Rattle.model.specs.declared.Refusal.{Refusal}
 use Rattle.model.specs.declared.Reply.the-variants.{Refused}
 use Rattle.model.specs.declared.Errno.the-variants.{Euclean, E2big, Einval, Enametoolong, Enoent, Ebadf, Enotdir, Eloop, Exdev, Emfile, Enotty}

@@ -4,7 +4,8 @@ use native.Mathlib.Omega.{arith}
 use denote.Ref.{now}
 use lib.ListN.{take, length-set}
 use Rattle.ventolaire.specs.Written.{errnoNumbers}
-use Rattle.ventolaire.proofs.OutLaws.{errnos-none, errnos-nine, errnos-eleven, front}
+use Rattle.ventolaire.proofs.OutLaws.{errnos-none, errnos-nine, errnos-eleven}
+use Rattle.numbers.proofs.NumberLaws.{front}
 use Rattle.ventolaire.proofs.ventolaire_errnos.Statement.{statement}
 use Rattle.ventolaire.proofs.ventolaire_errnos.Tie as tie
 
