@@ -28,12 +28,9 @@ use Rattle.strings.specs.Blocks.{SameTo, alikeBlocks}
 use Rattle.strings.specs.Orders.{ordered}
 use Rattle.strings.specs.declared.Order.{Order}
 use Rattle.strings.specs.declared.Order.the-variants.{Before, Same, After}
+use Rattle.strings.proofs.BlockLaws.{Bytes}
 use Rattle.strings.proofs.OrderLaws.{alike-same, alike-within, ordered-drop}
 use Rattle.name_search.specs.Halvings.{inCommon}
-
--- what the code has of each slice of bytes
-abbrev pub Bytes : List ℕ → Type 0
-Bytes s = (i : ℕ) → Fits w8 (getD s i 0)
 
 past-end : (s : List ℕ) (i : ℕ) → length s ≤ i → getD s i 0 ≡ 0
 past-end [] i h = refl

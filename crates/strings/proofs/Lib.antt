@@ -1,4 +1,4 @@
-mod BlockLaws
+pub mod BlockLaws
 mod ReversedLaws
 mod CompareLaws
 pub mod OrderLaws
