@@ -19,6 +19,7 @@ use Rattle.model.specs.Walk.{Landing, outside, target, reading, Step, fail, go,
 use Rattle.model.specs.Walk.{transitionBy, transition, turned, traced, walkPending, noneLeft, walk, beginAt, walkPath}
 use Rattle.model.specs.Resolve.{Call, callOf, handleUnchecked, refusedByHandle, refusedAfterTable, refusedBefore, restrictions, requestOf, traceOf, unlessRefused, resolve, placesOf}
 use Rattle.model.specs.Handles.{placeOf}
+use Rattle.model.specs.Descriptors.{serve}
 use Rattle.model.specs.declared.Place.{Place}
 use Rattle.model.specs.declared.Handle.{Handle}
 use Rattle.model.specs.declared.State.{State}
@@ -26,7 +27,7 @@ use Rattle.model.specs.declared.Errno.{Errno}
 use Rattle.model.specs.declared.Errno.the-variants.{Enametoolong, Exdev}
 use Rattle.laws.proofs.Refusals.{marked-checked, scopes-apart}
 use Rattle.theorems.specs.Adding.{meetings, eventsOf}
-use Rattle.theorems.specs.AnyHandle.{Unchecked, AnyHandle, Passing, StopsAtStart, BeneathStops, MarkedFirst}
+use Rattle.theorems.specs.AnyHandle.{Unchecked, AnyHandle, AnyNumber, Passing, StopsAtStart, BeneathStops, MarkedFirst}
 use Rattle.theorems.proofs.Steps.{meets-answer}
 
 cond-both : {A : Type 0} (P : A → A → Type 0) (t : Bool) {x x′ y y′ : A} → P x y → P x′ y′ → P (cond t x x′) (cond t y y′)
@@ -157,6 +158,10 @@ module _ (image : List ℕ) (h h′ : Handle) (path how : List ℕ) (u : Uncheck
 pub any-handle : AnyHandle
 unfolding resolve
 any-handle image h h′ path how u u′ = rw (before-alike image h h′ path how u u′, answers-alike image h h′ path how u u′)
+
+pub any-number : AnyNumber
+unfolding serve
+any-number image slots d e marked path how h h′ held held′ u u′ = rw (held, held′, any-handle image h h′ path how u u′)
 
 -- with table, open_how and path let through, what refuses a call is its handle's check, if it is made
 left-to-handle : (image : List ℕ) (call : Call) → Passing image call → refusedBefore image call ≡ refusedByHandle image call

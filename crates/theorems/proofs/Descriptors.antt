@@ -27,7 +27,7 @@ use Rattle.model.specs.declared.Reply.the-variants.{Opened, Duplicated, Done, R
 use Rattle.model.specs.declared.Verdict.the-variants.{Broken}
 use Rattle.laws.proofs.Cases.{below-or}
 use Rattle.laws.proofs.DescriptorLaws.{holding-not, slot-below, slot-none, slot-other, slot-again, lowest-below, lowest-free, lowest-first, none-free, serve-cases}
-use Rattle.theorems.specs.Descriptors.{IsOpen, Resolved, OpenIsResolve, LowestFree, LowestGiven, RefusalKeeps, MarkIsItsOwn, MarkStays, NothingOpen}
+use Rattle.theorems.specs.Descriptors.{IsOpen, Resolved, OpenIsResolve, ClosedRefuses, LowestFree, LowestGiven, RefusalKeeps, MarkIsItsOwn, MarkStays, NothingOpen}
 
 -- an open whose mark is not asked in vain is what the resolver's answer makes of it
 pub through : (image : List ℕ) (slots : List Slot) (d : ℕ) (marked : Bool) (path how : List ℕ) (h : Handle) → slotAt slots d ≡ holding h
@@ -47,6 +47,10 @@ open-is-resolve image slots d marked path how h held unasked =
       opened = λ r n e free. is ∙ ap (answering slots marked) e ∙ given slots marked r free;
       full = λ r e all. is ∙ ap (answering slots marked) e ∙ given slots marked r (none-free slots all);
     }
+
+pub closed-refuses : ClosedRefuses
+unfolding serve
+closed-refuses image slots d marked path how e = rw e
 
 -- the number that a reply gives
 abbrev numberOf : Reply → ℕ

@@ -1,6 +1,6 @@
 -- What an absolute path owes to the handle (RULES 7.5, 12.11): nothing, where it is not checked.
 use Prim.Native.Nat.{ℕ}
-use mathlib.Core.Bool.{true, false}
+use mathlib.Core.Bool.{Bool, true, false}
 use mathlib.Core.List.{List, [], _∷_}
 use mathlib.Core.Option.{none, some}
 use mathlib.Core.Path.{_≡_}
@@ -13,6 +13,7 @@ use Rattle.model.specs.Path.{pathRefused, absolute}
 use Rattle.model.specs.Handles.{handleRefused}
 use Rattle.model.specs.Trace.{Start}
 use Rattle.model.specs.Resolve.{Call, callOf, resolve, placesOf}
+use Rattle.model.specs.Descriptors.{Slot, holding, openPath, slotAt, serve}
 use Rattle.model.specs.declared.Handle.{Handle}
 use Rattle.model.specs.declared.Refusal.{Refusal}
 use Rattle.model.specs.declared.Errno.the-variants.{Exdev}
@@ -30,6 +31,12 @@ pub record Unchecked (call : Call) : Type 0 where
 abbrev pub AnyHandle : Type 0
 AnyHandle = (image : List ℕ) (h h′ : Handle) (path how : List ℕ) → Unchecked (callOf h path how) → Unchecked (callOf h′ path how)
     → resolve image (callOf h path how) ≡ resolve image (callOf h′ path how)
+
+-- and so do two opens through numbers that hold such handles
+abbrev pub AnyNumber : Type 0
+AnyNumber = (image : List ℕ) (slots : List Slot) (d e : ℕ) (marked : Bool) (path how : List ℕ) (h h′ : Handle) → slotAt slots d ≡ holding h → slotAt slots e ≡ holding h′
+    → Unchecked (callOf h path how) → Unchecked (callOf h′ path how)
+    → serve image slots (openPath d marked path how) ≡ serve image slots (openPath e marked path how)
 
 -- table, open_how and path are not refused; the handle may be any
 pub record Passing (image : List ℕ) (call : Call) : Type 0 where

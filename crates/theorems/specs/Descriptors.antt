@@ -41,6 +41,11 @@ OpenIsResolve =
     (image : List ℕ) (slots : List Slot) (d : ℕ) (marked : Bool) (path how : List ℕ) (h : Handle) → slotAt slots d ≡ holding h
     → askedInVain marked how ≡ false → Resolved slots marked (resolve image (callOf h path how)) (serve image slots (openPath d marked path how))
 
+-- "EBADF for a closed number or one above 63, whatever the path" (RULES 17.4), be it one that needs no handle
+abbrev pub ClosedRefuses : Type 0
+ClosedRefuses = (image : List ℕ) (slots : List Slot) (d : ℕ) (marked : Bool) (path how : List ℕ) → slotAt slots d ≡ closed
+    → serve image slots (openPath d marked path how) ≡ denying slots Ebadf
+
 -- "either gives the lowest free number" (RULES 17.5)
 pub record LowestFree (slots : List Slot) (n : ℕ) : Type 0 where
   pub below : n < 64
