@@ -1,7 +1,7 @@
 -- Laws of the checks before the walk: what a call that they let through is known to be, and that a refusal by them carries no counts.
 -- Assumes nothing.
 use Prim.Native.Nat.{ℕ, _≤_}
-use mathlib.Core.Bool.{Bool, true, false, cond, not, _&&_, _||_, and-false, true≢false}
+use mathlib.Core.Bool.{Bool, true, false, not, _&&_, _||_, and-false}
 use mathlib.Core.List.{List}
 use mathlib.Core.Option.{Option, none, some}
 use mathlib.Core.Path.{_≡_, refl}
@@ -23,7 +23,7 @@ use Rattle.model.specs.declared.Errno.{Errno}
 use Rattle.model.specs.declared.Errno.the-variants.{Euclean, Einval, E2big, Enametoolong, Enoent, Ebadf, Enotdir}
 use Rattle.model.specs.declared.Verdict.{Verdict}
 use Rattle.model.specs.declared.Verdict.the-variants.{Accepted, Broken}
-use Rattle.laws.proofs.Cases.{some-not-none, both}
+use Rattle.laws.proofs.Cases.{some-not-none, both, cond-cases}
 use Rattle.laws.specs.Inside.{Inside}
 
 -- where a chain of checks refuses nothing, no check of it does
@@ -52,11 +52,6 @@ pub marked-checked : (call : Call) → call .handle .mark ≡ true → handleUnc
 unfolding handleUnchecked
 marked-checked call e = rw e (and-false (absolute (call .path) && not (has IN-ROOT (resolveOf (call .how)))))
 
--- a check that is skipped, or refuses nothing
-checked-passes : (b : Bool) (o : Option Refusal) → cond b none o ≡ none → b ≡ false → o ≡ none
-checked-passes true o e c = absurd (true≢false c)
-checked-passes false o e c = e
-
 -- a call that no check refuses
 pub record Unrefused (image : List ℕ) (call : Call) : Type 0 where
   pub table-passes : tableCheck image ≡ Accepted
@@ -74,7 +69,7 @@ unrefused image call e =
       table-passes = accepted (tableCheck image) (a .0);
       how-passes = b .0;
       path-passes = c .0;
-      handle-passes = checked-passes (handleUnchecked call) (handleRefused (treeOf image) (call .handle)) (c .1);
+      handle-passes = λ checked. rw checked at (c .1);
     }
 
 -- it has a resolve,
@@ -164,14 +159,10 @@ handle-uncounted t h =
     (if-uncounted (not (isDirectory t (h .node))) Enotdir _
     (if-uncounted (not (under t (h .node) (t .mountRoot (h .mount))) || covered t (placeOf h)) Ebadf none tt))
 
-skipped-uncounted : (b : Bool) (o : Option Refusal) → Uncounted o → Uncounted (cond b none o)
-skipped-uncounted true o h = tt
-skipped-uncounted false o h = h
-
 pub before-uncounted : (image : List ℕ) (call : Call) → Uncounted (refusedBefore image call)
 unfolding refusedBefore refusedAfterTable
 before-uncounted image call =
     or-uncounted (refusedTable (tableCheck image)) _ (table-uncounted (tableCheck image))
     (or-uncounted (howRefused (call .how)) _ (how-uncounted (call .how))
     (or-uncounted (pathRefused (call .path)) _ (path-uncounted (call .path))
-    (skipped-uncounted (handleUnchecked call) _ (handle-uncounted (treeOf image) (call .handle)))))
+    (cond-cases Uncounted (handleUnchecked call) none _ (λ _. tt) (λ _. handle-uncounted (treeOf image) (call .handle)))))

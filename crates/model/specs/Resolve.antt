@@ -42,6 +42,7 @@ uncheckedBy path bits marked = absolute path && not (has IN-ROOT bits) && not ma
 unfoldable pub handleUnchecked : Call → Bool
 handleUnchecked call = uncheckedBy (call .path) (resolveOf (call .how)) (call .handle .mark)
 
+-- "A marked handle is still checked first": the check, where it is made (RULES 7.4)
 abbrev pub refusedByHandle : List ℕ → Call → Option Refusal
 refusedByHandle image call = cond (handleUnchecked call) none (handleRefused (treeOf image) (call .handle))
 

@@ -1,19 +1,18 @@
 -- Slots as numbers: one number, the 64, and the lowest that is free. Assumes nothing.
 use Prim.Native.Nat.{ℕ, zero, suc, _+_, _-_, _*_, _/_, _%_, _^_, _≤_, _<_}
-use mathlib.Core.Bool.{Bool, true, false, cond}
+use mathlib.Core.Bool.{Bool, true, false}
 use mathlib.Core.List.{List, [], _∷_, _++_, map}
 use mathlib.Core.Option.{Option, none, some}
-use mathlib.Core.Path.{_≡_, refl, sym, ap, ap₂, _∙_}
+use mathlib.Core.Path.{_≡_, refl, sym, ap, _∙_}
 use native.Mathlib.Omega.{arith}
-use borrow.Author.Tests.{eqb-true, lt-ltb, le-ltb, eq-eqb, ne-eqb}
+use borrow.Author.Tests.{lt-ltb, le-ltb, eq-eqb, ne-eqb}
 use lib.Dec.{eqb}
 use lib.ListN.{length, getD, take, drop, set, replicate, List·getD-map}
-use lib.Seq.{getD-take, take-set-lt, drop-set-lt, set-at, drop-cons, drop-append-seam}
-use Rattle.model.specs.Bytes.{find}
-use Rattle.model.specs.Descriptors.{Slot, closed, holding, isClosed, handleAt, slotAt, lowestFree, start, startOn}
+use lib.Seq.{getD-take, take-set-lt}
+use Rattle.model.specs.Descriptors.{Slot, closed, holding, isClosed, handleAt, slotAt, lowestFree}
 use Rattle.model.specs.declared.Handle.{Handle}
 use Rattle.model.specs.declared.Place.{Place}
-use Rattle.laws.proofs.ByteLaws.{Finds, Lowest, find-some}
+use Rattle.laws.proofs.ByteLaws.{Finds, find-some}
 use Rattle.parts.specs.Searches.{foundOr}
 use Rattle.slots.specs.Slots.{handleBy, slotBy, slotsBy, Fits}
 

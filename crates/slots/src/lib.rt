@@ -3,7 +3,7 @@ use model::Handle;
 use model::Place;
 ghost use mathlib.Core.List.{_++_};
 ghost use mathlib.Core.Path.{_≡_};
-ghost use Prim.Native.Nat.{ℕ, _≤_, _<_};
+ghost use Prim.Native.Nat.{_≤_, _<_};
 ghost use lib.ListN.{length, drop, replicate};
 ghost use Rattle.model.specs.Descriptors.{holding, handleAt, slotAt, lowestFree};
 ghost use Rattle.parts.specs.Searches.{foundOr};

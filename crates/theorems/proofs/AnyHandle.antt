@@ -1,33 +1,31 @@
 -- An absolute path whose handle is not checked: the handle makes no difference. It is read only by ".." at its own place, event Escape, and
 -- what forbids Escape forbids Start too, which such a path meets first. Assumes nothing.
 use Prim.Native.Nat.{ℕ, zero, suc}
-use mathlib.Core.Bool.{Bool, true, false, cond, _&&_}
+use mathlib.Core.Bool.{Bool, true, false, cond}
 use mathlib.Core.List.{List, [], _∷_}
 use mathlib.Core.Option.{Option, none, some}
 use mathlib.Core.Path.{_≡_, refl, sym, ap, _∙_}
 use lib.Dec.{ltb}
 use lib.ListN.{length}
-use Rattle.model.specs.Bytes.{has, sameBytes, ascii}
+use Rattle.model.specs.Bytes.{sameBytes, ascii}
 use Rattle.model.specs.Tree.{isDirectory, lookup}
-use Rattle.model.specs.TableCheck.{tableCheck}
-use Rattle.model.specs.Answers.{refused, notWalked}
-use Rattle.model.specs.OpenHow.{resolveOf, scopesRefused, howRefused, BENEATH, IN-ROOT}
+use Rattle.model.specs.Answers.{notWalked}
 use Rattle.model.specs.Path.{Component, absolute}
 use Rattle.model.specs.Trace.{Escape, Start, Restrictions, Trace, row, firstSet, forbids, forbidAny, refusedBy, answer, stoodOn}
 use Rattle.model.specs.Walk.{Request, samePlace, Move, afterIf, atTop, goUp, stayAt, climb, along, magicLink, symbolicLink, followLink, stepTo, stepBy, byName, oneComponent}
-use Rattle.model.specs.Walk.{Landing, outside, target, reading, Step, fail, go, follow, taken, standingOn, finish, isEmpty, Turn, refuses, went, followed, Transition}
+use Rattle.model.specs.Walk.{outside, target, reading, Step, fail, go, follow, taken, standingOn, finish, isEmpty, Turn, refuses, went, followed, Transition}
 use Rattle.model.specs.Walk.{transitionBy, transition, turned, traced, walkPending, noneLeft, walk, beginAt, walkPath}
-use Rattle.model.specs.Resolve.{Call, callOf, handleUnchecked, refusedByHandle, refusedAfterTable, refusedBefore, restrictions, requestOf, traceOf, unlessRefused, resolve, placesOf}
+use Rattle.model.specs.Resolve.{Call, callOf, handleUnchecked, refusedByHandle, refusedAfterTable, refusedBefore, restrictions, requestOf, traceOf, resolve, placesOf}
 use Rattle.model.specs.Handles.{placeOf}
 use Rattle.model.specs.Descriptors.{serve}
 use Rattle.model.specs.declared.Place.{Place}
 use Rattle.model.specs.declared.Handle.{Handle}
 use Rattle.model.specs.declared.State.{State}
 use Rattle.model.specs.declared.Errno.{Errno}
-use Rattle.model.specs.declared.Errno.the-variants.{Enametoolong, Exdev}
+use Rattle.model.specs.declared.Errno.the-variants.{Enametoolong}
 use Rattle.laws.proofs.Refusals.{marked-checked, scopes-apart}
 use Rattle.theorems.specs.Adding.{meetings, eventsOf}
-use Rattle.theorems.specs.AnyHandle.{Unchecked, AnyHandle, AnyNumber, Passing, StopsAtStart, BeneathStops, MarkedFirst}
+use Rattle.theorems.specs.AnyHandle.{Unchecked, AnyHandle, AnyNumber, Passing, BeneathStops, MarkedFirst}
 use Rattle.theorems.proofs.Steps.{meets-answer}
 
 cond-both : {A : Type 0} (P : A → A → Type 0) (t : Bool) {x x′ y y′ : A} → P x y → P x′ y′ → P (cond t x x′) (cond t y y′)

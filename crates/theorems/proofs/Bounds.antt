@@ -173,10 +173,10 @@ resolve-within-by image call none e u =
     let tree = treeOf image in
     let un = unrefused image call e in
     let sound = accepted-sound image (un .table-passes) in
-    let root = either-root-inside sound (placeOf (call .handle)) (has IN-ROOT (resolveOf (call .how))) (λ r. rooted-inside image call un r) in
+    let root = either-root-inside sound (placeOf (call .handle)) (has IN-ROOT (resolveOf (call .how))) (rooted-inside image call un) in
     let directory = has O-DIRECTORY (flagsOf (call .how)) || endsInSlash (call .path) in
     answer-within tree (restrictions call) (traceOf image call)
-    (path-within (requestOf image call) sound root directory (call .path) (path-short (call .path) (un .path-passes)) (λ r. relative-inside image call un r))
+    (path-within (requestOf image call) sound root directory (call .path) (path-short (call .path) (un .path-passes)) (relative-inside image call un))
 
 resolve-within : (image : List ℕ) (call : Call) → AnswerWithin (treeOf image) (resolve image call)
 unfolding resolve

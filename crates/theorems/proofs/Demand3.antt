@@ -31,7 +31,7 @@ use Rattle.model.specs.declared.Answer.the-variants.{Found}
 use Rattle.model.specs.declared.Errno.{Errno}
 use Rattle.model.specs.declared.Errno.the-variants.{Einval}
 use Rattle.laws.proofs.ByteLaws.{field-ext, find-ext}
-use Rattle.laws.proofs.Cases.{some-not-none}
+use Rattle.laws.proofs.Cases.{some-not-none, cond-cases}
 use Rattle.laws.proofs.BitLaws.{has-or, has-or-high, or-low}
 use Rattle.laws.proofs.Refusals.{unrefused, how-long}
 use Rattle.theorems.proofs.OnlyStops as trace
@@ -152,9 +152,8 @@ unfolding handleRefused
 handle-kept t h h′ e = rw (ap (λ p. p .mount) e, ap (λ p. p .node) e)
 
 -- a check that refuses nothing is one that may be skipped
-skips : (b : Bool) (o : Option Refusal) → o ≡ none → cond b none o ≡ none
-skips true o e = refl
-skips false o e = e
+skips : (b : Bool) {o : Option Refusal} → o ≡ none → cond b none o ≡ none
+skips b e = cond-cases (λ x. x ≡ none) b none _ (λ _. refl) (λ _. e)
 
 module _ (added : Restrictions) (image : List ℕ) (call call′ : Call) (good : handleRefused (treeOf image) (call .handle) ≡ none) (adds : Adds added call call′)
     (scope : 24 ≤ length (call .how) → added beneath ≡ true → has IN-ROOT (resolveOf (call .how)) ≡ false) where
@@ -165,8 +164,8 @@ module _ (added : Restrictions) (image : List ℕ) (call call′ : Call) (good :
   -- the mark may turn the check on, and a good handle passes it
   good-kept : refusedByHandle image call′ ≡ refusedByHandle image call
   good-kept =
-      skips (handleUnchecked call′) _ (handle-kept (treeOf image) (call .handle) (call′ .handle) (adds .samePlace) ∙ good)
-      ∙ sym (skips (handleUnchecked call) _ good)
+      skips (handleUnchecked call′) (handle-kept (treeOf image) (call .handle) (call′ .handle) (adds .samePlace) ∙ good)
+      ∙ sym (skips (handleUnchecked call) good)
 
   before-kept : refusedBefore image call′ ≡ refusedBefore image call
   unfolding refusedBefore refusedAfterTable

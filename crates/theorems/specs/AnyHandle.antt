@@ -55,7 +55,7 @@ abbrev pub BeneathStops : Type 0
 BeneathStops = (image : List ℕ) (call : Call) → Passing image call → absolute (call .path) ≡ true
     → has BENEATH (resolveOf (call .how)) ≡ true → call .handle .mark ≡ false → StopsAtStart image call
 
--- "A marked handle is still checked first": a bad one refuses the call by its own number, whatever the path and the open_how
+-- "A marked handle is still checked first": a bad one refuses such a call by its own number, be the path absolute or not
 abbrev pub MarkedFirst : Type 0
 MarkedFirst = (image : List ℕ) (call : Call) → Passing image call → call .handle .mark ≡ true
     → (r : Refusal) → handleRefused (treeOf image) (call .handle) ≡ some r → resolve image call ≡ Refused r

@@ -1,14 +1,13 @@
 -- What the C interface writes, by how many numbers there are and how many have room. Assumes nothing.
-use Prim.Native.Nat.{ℕ, suc, _≤_, _<_}
-use mathlib.Core.List.{List, [], _∷_, _++_}
+use Prim.Native.Nat.{ℕ, _≤_, _<_}
+use mathlib.Core.List.{List, _++_}
 use mathlib.Core.Path.{_≡_, refl, ap, _∙_, sym}
 use native.Mathlib.Omega.{arith}
 use borrow.Author.Tests.{lt-ltb, le-ltb}
-use lib.ListN.{length, take, drop, set}
-use Rattle.model.specs.Answers.{errnoNumber, answerNumbers, verdictNumbers}
+use lib.ListN.{length, take, drop}
+use Rattle.model.specs.Answers.{answerNumbers, verdictNumbers}
 use Rattle.model.specs.declared.Answer.{Answer}
 use Rattle.model.specs.declared.Answer.the-variants.{Found, Refused}
-use Rattle.model.specs.declared.Refusal.{Refusal}
 use Rattle.model.specs.declared.Verdict.{Verdict}
 use Rattle.model.specs.declared.Verdict.the-variants.{Accepted, Broken}
 use Rattle.model.specs.TableCheck.{tableCheck}
@@ -18,7 +17,6 @@ use Rattle.model.specs.declared.Reply.the-variants.{Opened, Duplicated, Done, R
 use Rattle.model.specs.Lookup.{lookupNumbers}
 use Rattle.model.specs.declared.Lookup.{Lookup}
 use Rattle.model.specs.declared.Lookup.the-variants.{Named, Unnamed}
-use Rattle.model.specs.declared.Miss.{Miss}
 use Rattle.slots.specs.Slots.{slotsBy}
 use Rattle.descriptors.specs.Replies.{Serves}
 use Rattle.ventolaire.specs.Written.{errnoNumbers, errnosFor, Writes, WritesStart, WritesReply}
