@@ -31,7 +31,7 @@ _ventolaire_value() {
         _ventolaire_names "$2" 'RESOLVE_BENEATH RESOLVE_IN_ROOT RESOLVE_NO_XDEV
             RESOLVE_NO_SYMLINKS RESOLVE_NO_MAGICLINKS'
         ;;
-    --paths-from | --names-from) _ventolaire_files "$2" ;;
+    --paths-from | --names-from | --output | -o) _ventolaire_files "$2" ;;
     --handle | --how) ;;
     *) return 1 ;;
     esac
@@ -41,7 +41,7 @@ _ventolaire() {
     local word=${COMP_WORDS[COMP_CWORD]} before=${COMP_WORDS[COMP_CWORD - 1]} options
     COMPREPLY=()
     if [ "$COMP_CWORD" -eq 1 ]; then
-        _ventolaire_words '' "$word" 'check show resolve lookup script demo --help -h --version -V'
+        _ventolaire_words '' "$word" 'check show resolve lookup canonical script demo --help -h --version -V'
         return
     fi
     # bash makes --flag=PATH three words: the option, the sign, the value.
@@ -56,6 +56,7 @@ _ventolaire() {
     show) options='--dot --json' ;;
     resolve) options='--handle --mark --flag --resolve --how --paths-from -0 --null --json' ;;
     lookup) options='--names-from -0 --null --json' ;;
+    canonical) options='-o --output --force --check --json' ;;
     *) return ;;
     esac
     case $word in

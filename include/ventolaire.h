@@ -1,12 +1,13 @@
 /*
  * Ventolaire: resolves a path below a handle, after Linux's openat2, in a file
- * tree that is lent as one table image. For C99 and C++.
+ * tree that is lent as one table image, and writes such images. For C99 and C++.
  *
  * Common to all functions:
  *
  * - A pair of a pointer and a length lends that many bytes. A null pointer is
- *   allowed where its length is 0. What is lent is only read, but for `out` and a
- *   table of descriptors, which must not overlap each other or what is lent.
+ *   allowed where its length is 0. What is lent is only read, but for `out`, a
+ *   table of descriptors and the buffer of ventolaire_build, which must not
+ *   overlap each other or what is lent.
  * - Answers are numbers written from out[0] on; out_len says how many numbers
  *   `out` has room for. With too little room nothing is written and the return
  *   value is 0. Otherwise the whole answer is written, the return value is how
@@ -40,9 +41,9 @@ extern "C" {
  * them that grows with every version, to be compared.
  */
 #define VENTOLAIRE_VERSION_MAJOR 0
-#define VENTOLAIRE_VERSION_MINOR 4
+#define VENTOLAIRE_VERSION_MINOR 5
 #define VENTOLAIRE_VERSION_PATCH 0
-#define VENTOLAIRE_VERSION 4000 /* major * 1,000,000 + minor * 1,000 + patch */
+#define VENTOLAIRE_VERSION 5000 /* major * 1,000,000 + minor * 1,000 + patch */
 
 /*
  * How to resolve: the bytes of an open_how, little-endian.
@@ -81,7 +82,7 @@ static inline void ventolaire_how(uint8_t how[VENTOLAIRE_HOW_SIZE],
     }
 }
 
-/* Why a path is refused: Linux's numbers, whatever the host's are. */
+/* Why a call is refused: Linux's numbers, whatever the host's are. */
 #define VENTOLAIRE_ENOENT 2        /* empty path, no such name, or mark broken */
 #define VENTOLAIRE_E2BIG 7         /* open_how too long, or something behind it */
 #define VENTOLAIRE_EBADF 9         /* no such place, node or open descriptor */
@@ -90,6 +91,7 @@ static inline void ventolaire_how(uint8_t how[VENTOLAIRE_HOW_SIZE],
 #define VENTOLAIRE_EINVAL 22       /* open_how not valid, or zero byte in the path */
 #define VENTOLAIRE_EMFILE 24       /* all 64 descriptors are open */
 #define VENTOLAIRE_ENOTTY 25       /* the mark is set on no directory */
+#define VENTOLAIRE_ERANGE 34       /* the buffer for an image is too short */
 #define VENTOLAIRE_ENAMETOOLONG 36 /* path over 4,095 bytes, or name over 255 */
 #define VENTOLAIRE_ELOOP 40        /* over 40 links, or a link not to be followed */
 #define VENTOLAIRE_EUCLEAN 117     /* the table check fails */
@@ -107,6 +109,7 @@ static inline const char *ventolaire_error_name(uint64_t error)
     case VENTOLAIRE_EINVAL: return "EINVAL";
     case VENTOLAIRE_EMFILE: return "EMFILE";
     case VENTOLAIRE_ENOTTY: return "ENOTTY";
+    case VENTOLAIRE_ERANGE: return "ERANGE";
     case VENTOLAIRE_ENAMETOOLONG: return "ENAMETOOLONG";
     case VENTOLAIRE_ELOOP: return "ELOOP";
     case VENTOLAIRE_EUCLEAN: return "EUCLEAN";
@@ -313,11 +316,51 @@ size_t ventolaire_set_mark(const uint8_t *image, size_t image_len,
                            uint64_t *out, size_t out_len);
 
 /*
- * Writes the numbers of all refusals, in this order: EUCLEAN, E2BIG, EINVAL,
- * ENAMETOOLONG, ENOENT, EBADF, ENOTDIR, ELOOP, EXDEV, EMFILE, ENOTTY. An array
- * with room for the first nine alone gets these.
+ * Writes the image of the tree that four parts stand for: node records of 12
+ * bytes, mount records and entry records of 8 bytes each, as an image has them,
+ * and a text, into which the offsets of names and link bodies reach. In the text
+ * names and bodies may stand in any order, overlap, be shared, or have gaps
+ * between them. The image has its own text, the names in the order of the entries
+ * and then the bodies in the order of the nodes, without gaps or sharing, and the
+ * records' offsets are those in it: one tree has one image, whatever parts it
+ * was described by. All other fields are written as they are.
+ *
+ * Refused first, with EUCLEAN, is a tree whose image would break a rule of the
+ * table check: the rule and the record are those that ventolaire_check would name
+ * for it. Lengths are taken as the records give them. A name that reaches outside
+ * of the text breaks rule 5, a body that does rule 4, each at its record. Bytes
+ * behind the last whole record of a part break rule 3, and are counted in nothing.
+ * Then, with ERANGE, a buffer too short for the image; the answer tells how long
+ * it has to be. So a first call may have a buffer of no bytes.
+ *
+ * A refusal leaves the buffer as it was. Otherwise the image is written from its
+ * first byte on, ventolaire_check accepts it, and the bytes behind it are not
+ * touched.
  */
-#define VENTOLAIRE_ERRNOS_LEN 11
+enum {
+    VENTOLAIRE_BUILD_ERRNO,  /* 0: written */
+    VENTOLAIRE_BUILD_RULE,   /* with EUCLEAN the rule broken and the record that */
+    VENTOLAIRE_BUILD_RECORD, /* breaks it; else 0 and 0 */
+    VENTOLAIRE_BUILD_BYTES,  /* how many bytes the image has; 0 with EUCLEAN */
+    VENTOLAIRE_BUILD_LEN     /* how many numbers the answer has: 4 */
+};
+
+/* The most bytes that an image has: a buffer of so many is never too short. */
+#define VENTOLAIRE_IMAGE_MAX 65536
+
+size_t ventolaire_build(const uint8_t *nodes, size_t nodes_len,
+                        const uint8_t *mounts, size_t mounts_len,
+                        const uint8_t *entries, size_t entries_len,
+                        const uint8_t *text, size_t text_len,
+                        uint8_t *buffer, size_t buffer_len,
+                        uint64_t *out, size_t out_len);
+
+/*
+ * Writes the numbers of all refusals, in this order: EUCLEAN, E2BIG, EINVAL,
+ * ENAMETOOLONG, ENOENT, EBADF, ENOTDIR, ELOOP, EXDEV, EMFILE, ENOTTY, ERANGE. An
+ * array with room for the first eleven, or for the first nine, alone gets these.
+ */
+#define VENTOLAIRE_ERRNOS_LEN 12
 
 size_t ventolaire_errnos(uint64_t *out, size_t out_len);
 

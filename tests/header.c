@@ -29,24 +29,26 @@ static void names(void)
     HOLDS(strcmp(ventolaire_error_name(VENTOLAIRE_EXDEV), "EXDEV") == 0);
     HOLDS(strcmp(ventolaire_error_name(VENTOLAIRE_EMFILE), "EMFILE") == 0);
     HOLDS(strcmp(ventolaire_error_name(VENTOLAIRE_ENOTTY), "ENOTTY") == 0);
-    HOLDS(VENTOLAIRE_EMFILE == 24 && VENTOLAIRE_ENOTTY == 25);
+    HOLDS(strcmp(ventolaire_error_name(VENTOLAIRE_ERANGE), "ERANGE") == 0);
+    HOLDS(VENTOLAIRE_EMFILE == 24 && VENTOLAIRE_ENOTTY == 25 && VENTOLAIRE_ERANGE == 34);
     HOLDS(ventolaire_error_name(0) == NULL);
     HOLDS(ventolaire_error_name(1) == NULL);
     HOLDS(ventolaire_error_name((UINT64_C(1) << 32) + VENTOLAIRE_EXDEV) == NULL);
 }
 
-/* Programs that were built when there were nine errnos keep getting these. */
+/* Programs that were built when there were nine errnos, or eleven, keep getting these. */
 static void room(void)
 {
     uint64_t errnos[VENTOLAIRE_ERRNOS_LEN];
-    HOLDS(VENTOLAIRE_ERRNOS_LEN == 11);
+    HOLDS(VENTOLAIRE_ERRNOS_LEN == 12);
     for (size_t len = 0; len <= VENTOLAIRE_ERRNOS_LEN; len++) {
         memset(errnos, 0, sizeof errnos);
-        const size_t fits = len < 11 ? 9 : 11;
+        const size_t fits = len < 11 ? 9 : len; /* 11 or 12 */
         const size_t written = ventolaire_errnos(errnos, len);
         HOLDS(written == (len < 9 ? 0 : fits));
         HOLDS(written == 0 || errnos[8] == VENTOLAIRE_EXDEV);
         HOLDS(written < 11 || errnos[10] == VENTOLAIRE_ENOTTY);
+        HOLDS(written < 12 || errnos[11] == VENTOLAIRE_ERANGE);
         for (size_t i = written; i < VENTOLAIRE_ERRNOS_LEN; i++)
             HOLDS(errnos[i] == 0);
     }
@@ -102,6 +104,36 @@ static void lookups(void)
     HOLDS(out[VENTOLAIRE_LOOKUP_ERRNO] == VENTOLAIRE_EUCLEAN);
 }
 
+/* The numbers of a build's answer, and calls with each errno. */
+static void builds(void)
+{
+    HOLDS(VENTOLAIRE_BUILD_ERRNO == 0 && VENTOLAIRE_BUILD_RULE == 1);
+    HOLDS(VENTOLAIRE_BUILD_RECORD == 2 && VENTOLAIRE_BUILD_BYTES == 3);
+    HOLDS(VENTOLAIRE_BUILD_LEN == 4 && VENTOLAIRE_IMAGE_MAX == 65536);
+
+    /* The smallest image, from a directory and mount 0. */
+    const uint8_t nodes[12] = {1}, mounts[8] = {0};
+    const uint8_t image[41] = {'T', 'O', 'C', '1', 1, 0, 1, 0, 0, 0, 0, 0, 0, 0, 0, 0, 40, 0, 0,
+                               0, 1, 0, 0, 0, 0, 0, 0, 0, 0, 0, 0, 0, 0, 0, 0, 0, 0, 0,
+                               0, 0, 0xa5};
+    uint8_t buffer[41], untouched[41];
+    uint64_t out[VENTOLAIRE_BUILD_LEN];
+    memset(buffer, 0xa5, sizeof buffer);
+    memset(untouched, 0xa5, sizeof untouched);
+    HOLDS(ventolaire_build(NULL, 0, NULL, 0, NULL, 0, NULL, 0, NULL, 0, out, 4) == 4);
+    HOLDS(out[VENTOLAIRE_BUILD_ERRNO] == VENTOLAIRE_EUCLEAN && out[VENTOLAIRE_BUILD_RULE] == 3);
+    HOLDS(out[VENTOLAIRE_BUILD_RECORD] == 0 && out[VENTOLAIRE_BUILD_BYTES] == 0);
+    HOLDS(ventolaire_build(nodes, 12, mounts, 8, NULL, 0, NULL, 0, buffer, 39, out, 4) == 4);
+    HOLDS(out[VENTOLAIRE_BUILD_ERRNO] == VENTOLAIRE_ERANGE && out[VENTOLAIRE_BUILD_RULE] == 0);
+    HOLDS(out[VENTOLAIRE_BUILD_RECORD] == 0 && out[VENTOLAIRE_BUILD_BYTES] == 40);
+    HOLDS(ventolaire_build(nodes, 12, mounts, 8, NULL, 0, NULL, 0, buffer, 41, out, 3) == 0);
+    HOLDS(memcmp(buffer, untouched, sizeof buffer) == 0);
+    HOLDS(ventolaire_build(nodes, 12, mounts, 8, NULL, 0, NULL, 0, buffer, 41, out, 4) == 4);
+    HOLDS(out[VENTOLAIRE_BUILD_ERRNO] == 0 && out[VENTOLAIRE_BUILD_RULE] == 0);
+    HOLDS(out[VENTOLAIRE_BUILD_RECORD] == 0 && out[VENTOLAIRE_BUILD_BYTES] == 40);
+    HOLDS(memcmp(buffer, image, sizeof buffer) == 0);
+}
+
 static void hows(void)
 {
     const uint8_t expected[VENTOLAIRE_HOW_SIZE + 1] = {
@@ -119,6 +151,7 @@ int main(void)
     room();
     descriptors();
     lookups();
+    builds();
     hows();
     return failures != 0;
 }

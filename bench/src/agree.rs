@@ -1,15 +1,19 @@
 //! The two baselines of the table check agree: on every table of the bench, on
-//! tables that were damaged, and on small random ones.
+//! tables that were damaged, and on small random ones. So do the builders of all sides, on the
+//! parts of such tables.
 
+use crate::builds::{built, parts_of, Numbers};
 use crate::growth::GROWTHS;
-use crate::plain::Broken;
+use crate::plain::{Broken, Errno};
+use crate::side::Side;
 use crate::sweep::{LENGTHS, SWEEPS};
 use crate::tables::cases;
 use crate::worked::list;
 use crate::{growth, linear, plain, sweep};
 use data::dice::Dice;
-use data::fields::{self, Layout, NODES_AT};
+use data::fields::{self, Layout, ENTRY, NODES_AT};
 use data::image::{Text, Tree};
+use data::worked::Build;
 use data::{worked, BENCH_TREE};
 
 /// Plain's verdict, which has to be linear's too. If it is not, `seed` and the
@@ -114,6 +118,86 @@ fn on_small_random_tables() {
     // That the tables are of use: accepted ones, and many that break each rule.
     for rule in [0, 2, 3, 4, 5, 6, 7] {
         assert!(verdicts[rule] >= 1_000, "of each verdict: {verdicts:?}");
+    }
+}
+
+/// What all sides that build answer to some parts. An image that is written has to be accepted,
+/// and to be built again from its own parts.
+fn build(parts: &Build, about: &str, seed: u64) -> Numbers {
+    let (answer, image) = built(Side::Plain, parts);
+    let replay = || {
+        let Build { nodes, mounts, entries, text, room, .. } = parts;
+        worked::build_arguments(nodes, mounts, entries, text, *room)
+    };
+    if let Some(side) = Side::PROVED {
+        let other = built(side, parts);
+        let is_same = other == (answer, image.clone());
+        assert!(is_same, "{about}, seed {seed}: {answer:?}, {:?}\nreplay {}", other.0, replay());
+    }
+    let [errno, .., bytes] = answer;
+    let image = image.unwrap_or_else(|_| panic!("{about}, seed {seed}\nreplay {}", replay()));
+    if errno == 0 {
+        let is_kept = verdict(&image, about, seed) == Ok(()) && image.len() as u64 == bytes;
+        let again = Build { room: bytes, ..parts_of(&image) };
+        let is_same = built(Side::Plain, &again) == (answer, Ok(image));
+        assert!(is_kept && is_same, "{about}, seed {seed}: {answer:?}\nreplay {}", replay());
+    }
+    answer
+}
+
+/// Leaves out or adds bytes at the end of a part.
+fn cut(parts: &mut Build, dice: &mut Dice) {
+    let Build { nodes, mounts, entries, text, .. } = parts;
+    let part = dice.below(4);
+    let part = [nodes, mounts, entries, text].into_iter().nth(part).expect("one of four");
+    let by = 1 + dice.below(9);
+    let len = if dice.one_in(3) { part.len() + by } else { part.len().saturating_sub(by) };
+    part.resize(len, 0);
+}
+
+#[test]
+fn on_builds_of_small_random_tables() {
+    // Written, refused by each rule, and too long for the buffer.
+    let mut answers = [0; 9];
+    for seed in 0..100_000 {
+        let mut dice = Dice::of(seed);
+        let mut image = tree(&mut dice).image();
+        if dice.one_in(3) {
+            damage(&mut image, &mut dice);
+        }
+        let mut parts = parts_of(&image);
+        if dice.one_in(6) {
+            cut(&mut parts, &mut dice);
+        }
+        if dice.one_in(30) {
+            let entry = dice.below(1 + parts.entries.len() / ENTRY);
+            fields::set(&mut parts.entries, ENTRY * entry + 4, 2, 65_535);
+        }
+        let (answer, _) = built(Side::Plain, &parts);
+        if answer[0] == 0 {
+            let bytes = answer[3];
+            let less = dice.below(bytes as usize) as u64;
+            parts.room = dice.pick(&[bytes, bytes - 1, less, bytes + 1, 1 << 16]);
+        }
+        let [errno, rule, ..] = build(&parts, "a random build", seed);
+        answers[if errno == Errno::ERANGE as u64 { 8 } else { rule as usize }] += 1;
+    }
+    for kind in [0, 1, 3, 4, 5, 6, 7, 8] {
+        assert!(answers[kind] >= 1_000, "of each answer: {answers:?}");
+    }
+}
+
+#[test]
+fn on_builds_of_every_table_of_the_bench() {
+    for case in cases() {
+        for seed in 0..10 {
+            let mut dice = Dice::of(seed);
+            let mut image = (case.build)().image;
+            if seed > 0 {
+                damage(&mut image, &mut dice);
+            }
+            build(&parts_of(&image), case.name, seed);
+        }
     }
 }
 

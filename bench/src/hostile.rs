@@ -9,7 +9,7 @@ pub const CASES: &[Case] = &[
     Case {
         name: "hostile-names",
         about: "4,096 names of 255 bytes over shared text, alike but for the last byte",
-        build: || accepted(&names()),
+        build: || accepted(&names(4_096)),
     },
     Case {
         name: "hostile-bodies",
@@ -39,18 +39,18 @@ pub const CASES: &[Case] = &[
     Case {
         name: "hostile-names-slashes",
         about: "4,096 names of 255 bytes over shared text, a slash between any two",
-        build: || accepted(&names_between_slashes(NAME)),
+        build: || accepted(&names_between_slashes(4_096, NAME)),
     },
     Case {
         name: "hostile-short-names",
         about: "4,096 names of 31 bytes over shared text, a slash between any two",
-        build: || accepted(&names_between_slashes(31)),
+        build: || accepted(&names_between_slashes(4_096, 31)),
     },
     Case {
         name: "hostile-short-bodies",
         about: "4,095 symbolic links with bodies of 23 bytes over shared text, \
             a zero byte between any two",
-        build: || accepted(&short_bodies()),
+        build: || accepted(&bodies_before_zeros(4_095, 681, 23)),
     },
     Case {
         name: "hostile-some-names",
@@ -62,12 +62,12 @@ pub const CASES: &[Case] = &[
         name: "hostile-some-bodies",
         about: "1,500 symbolic links with bodies of 80 bytes over shared text, \
             a zero byte between any two",
-        build: || accepted(&some_bodies()),
+        build: || accepted(&bodies_before_zeros(1_500, 586, 80)),
     },
     Case {
         name: "hostile-points",
         about: "255 mount points at the end of a chain of 4,096 directories",
-        build: || accepted(&points()),
+        build: || accepted(&points(NAMED)),
     },
     Case {
         name: "hostile-one-point",
@@ -109,13 +109,13 @@ pub const CASES: &[Case] = &[
 const NAME: usize = 255;
 const BODY: usize = 4_095;
 
-/// 126 names, each with text of its own, in each of 33 directories: more text
-/// does not fit beside 4,096 entries.
-fn names() -> Tree {
+/// So many entries: 126 names, each with text of its own, in each of their directories.
+/// More text does not fit beside 4,096 entries.
+pub fn names(count: usize) -> Tree {
     let (mut tree, top) = Tree::mounted();
     let file = tree.file();
     let mut directories = vec![top];
-    directories.extend((1..33).map(|_| tree.directory(top)));
+    directories.extend((1..count.div_ceil(126)).map(|_| tree.directory(top)));
     let names: Vec<Text> = (0..126)
         .map(|i| {
             let mut name = [b'n'; NAME];
@@ -123,26 +123,26 @@ fn names() -> Tree {
             tree.text(&name)
         })
         .collect();
-    for i in 0..4_096 {
+    for i in 0..count {
         tree.name_again(directories[i / names.len()], names[i % names.len()].clone(), file);
     }
     tree
 }
 
 fn names_and_slash() -> Tree {
-    let mut tree = names();
+    let mut tree = names(4_096);
     tree.text(b"/");
     tree
 }
 
 /// Alike but for the last two bytes; as many as the text has room for, in as many
-/// directories as make 4,096 entries.
-fn names_between_slashes(length: usize) -> Tree {
+/// directories as make `entries` entries.
+pub fn names_between_slashes(entries: usize, length: usize) -> Tree {
     let (mut tree, top) = Tree::mounted();
     let file = tree.file();
     let count = 32_200 / (length + 1);
     let mut directories = vec![top];
-    directories.extend((1..=4_096 / count).map(|_| tree.directory(top)));
+    directories.extend((1..=entries / count).map(|_| tree.directory(top)));
     let names: Vec<Text> = (0..count)
         .map(|i| {
             let mut name = vec![b'n'; length];
@@ -153,7 +153,7 @@ fn names_between_slashes(length: usize) -> Tree {
             name
         })
         .collect();
-    for i in 0..4_096 {
+    for i in 0..entries {
         tree.name_again(directories[i / names.len()], names[i % names.len()].clone(), file);
     }
     tree
@@ -187,10 +187,11 @@ fn bodies_between_zeros() -> Tree {
     tree
 }
 
-fn short_bodies() -> Tree {
+/// So many links, with so many bodies of that length, each before a zero byte.
+pub fn bodies_before_zeros(links: usize, bodies: usize, length: usize) -> Tree {
     let (mut tree, _) = Tree::mounted();
-    let bodies = before_zeros(&mut tree, 681, 23);
-    for i in 0..4_095 {
+    let bodies = before_zeros(&mut tree, bodies, length);
+    for i in 0..links {
         tree.link(bodies[i % bodies.len()].clone());
     }
     tree
@@ -218,17 +219,8 @@ fn some_names() -> Tree {
     tree
 }
 
-fn some_bodies() -> Tree {
-    let (mut tree, _) = Tree::mounted();
-    let bodies = before_zeros(&mut tree, 586, 80);
-    for i in 0..1_500 {
-        tree.link(bodies[i % bodies.len()].clone());
-    }
-    tree
-}
-
 /// As many links as there may be nodes beside the top, and text for the rest.
-fn bodies() -> Tree {
+pub fn bodies() -> Tree {
     let (mut tree, _) = Tree::mounted();
     let all = tree.text(&letters(16_356));
     links(&mut tree, &all);
@@ -252,17 +244,19 @@ fn links(tree: &mut Tree, all: &Text) {
     }
 }
 
-/// The chain of 4,096 directories, as many of them named as fit beside 256
-/// mounts.
-fn chain() -> (Tree, Vec<usize>) {
+/// As many of the chain's directories as can be named beside 256 mounts.
+const NAMED: usize = 1_789;
+
+/// The chain of 4,096 directories, so many of them named.
+pub fn chain(named: usize) -> (Tree, Vec<usize>) {
     let (mut tree, top) = Tree::mounted();
     let name = tree.text(b"d");
-    let chain = tree.chain(top, &name, 4_095, 1_789);
+    let chain = tree.chain(top, &name, 4_095, named);
     (tree, chain)
 }
 
-fn points() -> Tree {
-    let (mut tree, chain) = chain();
+pub fn points(named: usize) -> Tree {
+    let (mut tree, chain) = chain(named);
     for &point in chain.iter().rev().take(255) {
         tree.mount(0, 0, point);
     }
@@ -271,7 +265,7 @@ fn points() -> Tree {
 
 /// `last` is the parent of the last mount.
 fn one_point(last: usize) -> Tree {
-    let (mut tree, chain) = chain();
+    let (mut tree, chain) = chain(NAMED);
     let point = chain[chain.len() - 1];
     for parent in (0..254).chain([last]) {
         tree.mount(0, parent, point);

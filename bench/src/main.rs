@@ -1,4 +1,4 @@
-//! Measures Ventolaire's proved table check and resolver against plain Rust
+//! Measures Ventolaire's proved table check, resolver and builder against plain Rust
 //! versions of the same rules. `bench --help` has the commands.
 //!
 //! There are two baselines: `plain`, the rules written straight down, and
@@ -23,6 +23,7 @@
 
 #[cfg(test)]
 mod agree;
+mod builds;
 #[cfg(feature = "proved")]
 mod calls;
 mod chart;
@@ -33,6 +34,7 @@ mod linear;
 mod lookups;
 mod measure;
 mod plain;
+mod plain_build;
 #[cfg(feature = "proved")]
 mod proved;
 mod side;
@@ -53,7 +55,7 @@ use std::process::ExitCode;
 use tables::cases;
 
 const HELP: &str = "\
-Measures the proved table check and resolver against plain Rust versions of the same rules.
+Measures the proved table check, resolver and builder against plain Rust versions of the same rules.
 
 bench list            the cases
 bench table           all cases: instructions and time per call
@@ -61,9 +63,10 @@ bench growth          how instructions per call grow with the input
 bench sweep           instructions per call by the length of names and bodies
 bench lookups         a name in one directory: instructions and time per call, and their bar
 bench descriptors     calls on descriptors: instructions and time per call, and their bars
+bench builds          an image built from its parts: instructions and time per call, and the bars
 bench calls           a call from Rust, its table checked each time and once
-bench all FILE        table, growth, sweep, lookups and descriptors, and a chart of the first two
-                      in FILE, as SVG
+bench all FILE        table, growth, sweep, lookups, descriptors and builds, and a chart of the
+                      first two in FILE, as SVG
 bench run CASE plain|linear|proved CALLS
                       one case, that many times
 bench call TABLE resolve|table CALLS
@@ -109,6 +112,7 @@ fn main() -> ExitCode {
         ["sweep"] => sweep::measure(),
         ["lookups"] => lookups::measure(),
         ["descriptors"] => descriptors::measure(),
+        ["builds"] => builds::measure(),
         #[cfg(feature = "proved")]
         ["calls"] => calls::measure(),
         #[cfg(feature = "proved")]
@@ -155,7 +159,7 @@ fn list() {
     for (name, about) in descriptors::list() {
         println!("{name:24} {about}");
     }
-    for (name, about) in lookups::list() {
+    for (name, about) in lookups::list().chain(builds::list()) {
         println!("{name:24} {about}");
     }
 }
@@ -169,7 +173,8 @@ fn run(case: &str, side: &str, calls: &str) -> Result<(), Box<dyn Error>> {
         println!("{}", replied.map_err(|reply| format!("{case}: it replies {reply:?}"))?);
         return Ok(());
     }
-    if let Some(sum) = lookups::run(case, side, calls) {
+    let sum = lookups::run(case, side, calls).or_else(|| builds::run(case, side, calls));
+    if let Some(sum) = sum {
         println!("{sum}");
         return Ok(());
     }
@@ -204,7 +209,9 @@ fn all(file: &str) -> Result<(), Box<dyn Error>> {
     println!();
     lookups::measure()?;
     println!();
-    descriptors::measure()
+    descriptors::measure()?;
+    println!();
+    builds::measure()
 }
 
 /// Measures all cases and prints them as a table; the ratios of proved to plain.

@@ -6,9 +6,9 @@
 
 use std::ops::RangeInclusive;
 
-const SIGNATURE: &[u8] = b"TOC1";
-const HEADER_LEN: usize = 20;
-const IMAGE_LEN: RangeInclusive<usize> = HEADER_LEN..=65_536;
+pub const SIGNATURE: &[u8] = b"TOC1";
+pub const HEADER_LEN: usize = 20;
+pub const IMAGE_LEN: RangeInclusive<usize> = HEADER_LEN..=65_536;
 const MAX_NODES: usize = 4_096;
 const MAX_MOUNTS: usize = 256;
 const MAX_ENTRIES: usize = 4_096;
@@ -20,7 +20,7 @@ const MAX_LINKS: usize = 40;
 // Node kinds.
 const DIRECTORY: u16 = 1;
 const FILE: u16 = 2;
-const SYMLINK: u16 = 3;
+pub const SYMLINK: u16 = 3;
 const MAGIC_LINK: u16 = 4;
 
 // open_how: length, flags and resolve bits.
@@ -50,7 +50,7 @@ pub struct Broken {
 }
 
 impl Broken {
-    fn new(rule: u8, record: usize) -> Self {
+    pub fn new(rule: u8, record: usize) -> Self {
         Broken { rule, record: record as u32 }
     }
 }
@@ -103,6 +103,7 @@ pub enum Errno {
     EINVAL = 22,
     EMFILE = 24,
     ENOTTY = 25,
+    ERANGE = 34,
     ENAMETOOLONG = 36,
     ELOOP = 40,
     EUCLEAN = 117,
@@ -111,11 +112,7 @@ pub enum Errno {
 /// The table check.
 pub fn check(image: &[u8]) -> Result<(), Broken> {
     check_header(image).map_err(|rule| Broken::new(rule, 0))?;
-    let table = Table::open(image);
-    table.check_nodes()?;
-    table.check_entries()?;
-    table.check_mounts()?;
-    table.check_magic_links()
+    Table::open(image).check_records()
 }
 
 /// The root of mount 0, in a table that [`check`] has accepted.
@@ -144,15 +141,18 @@ fn check_header(image: &[u8]) -> Result<(), u8> {
     let [nodes, mounts, entries] = counts(image);
     let text = u32_at(image, 12);
     let bodies = (HEADER_LEN + 12 * nodes + 8 * mounts + 8 * entries) as u64;
-    if !(1..=MAX_NODES).contains(&nodes)
-        || !(1..=MAX_MOUNTS).contains(&mounts)
-        || entries > MAX_ENTRIES
+    if !are_counts_allowed(nodes, mounts, entries)
         || bodies + u64::from(text) != image.len() as u64
         || u32_at(image, 16) as usize != image.len()
     {
         return Err(3);
     }
     Ok(())
+}
+
+/// Rule 3's limits of the counts.
+pub fn are_counts_allowed(nodes: usize, mounts: usize, entries: usize) -> bool {
+    (1..=MAX_NODES).contains(&nodes) && (1..=MAX_MOUNTS).contains(&mounts) && entries <= MAX_ENTRIES
 }
 
 fn u16_at(bytes: &[u8], at: usize) -> u16 {
@@ -173,15 +173,15 @@ fn counts(image: &[u8]) -> [usize; 3] {
 }
 
 #[derive(Clone, Copy)]
-struct Node {
-    kind: u16,
+pub struct Node {
+    pub kind: u16,
     parent: u16,
     first: u32,
-    count: u32,
+    pub count: u32,
 }
 
 impl Node {
-    fn read(record: &[u8; 12]) -> Self {
+    pub fn read(record: &[u8; 12]) -> Self {
         Node {
             kind: u16_at(record, 0),
             parent: u16_at(record, 2),
@@ -215,25 +215,25 @@ impl Mount {
 }
 
 #[derive(Clone, Copy)]
-struct Entry {
+pub struct Entry {
     name_at: u32,
-    name_len: u16,
+    pub name_len: u16,
     node: u16,
 }
 
 impl Entry {
-    fn read(record: &[u8; 8]) -> Self {
+    pub fn read(record: &[u8; 8]) -> Self {
         Entry { name_at: u32_at(record, 0), name_len: u16_at(record, 4), node: u16_at(record, 6) }
     }
 }
 
-/// The parts of an image that keeps rules 1 to 3.
+/// The parts of an image that keeps rules 1 to 3, or those that an image is built from.
 #[derive(Clone, Copy)]
-struct Table<'a> {
-    nodes: &'a [[u8; 12]],
-    mounts: &'a [[u8; 8]],
-    entries: &'a [[u8; 8]],
-    text: &'a [u8],
+pub struct Table<'a> {
+    pub nodes: &'a [[u8; 12]],
+    pub mounts: &'a [[u8; 8]],
+    pub entries: &'a [[u8; 8]],
+    pub text: &'a [u8],
 }
 
 impl<'a> Table<'a> {
@@ -248,6 +248,15 @@ impl<'a> Table<'a> {
             entries: entries.as_chunks().0,
             text,
         }
+    }
+
+    /// Rules 4 to 7, where the counts keep rule 3.
+    #[inline(never)] // the check of an image and the builder have it in common
+    pub fn check_records(&self) -> Result<(), Broken> {
+        self.check_nodes()?;
+        self.check_entries()?;
+        self.check_mounts()?;
+        self.check_magic_links()
     }
 
     fn node(&self, number: u16) -> Node {
@@ -323,6 +332,7 @@ impl<'a> Table<'a> {
     }
 
     /// Rule 5. By rule 4 the directories, in order, own all entries, in order.
+    #[inline(never)] // inlined, it takes 5 % more
     fn check_entries(&self) -> Result<(), Broken> {
         for (number, directory) in self.numbered_nodes() {
             if !directory.is_directory() {
@@ -458,9 +468,14 @@ impl<'a> Table<'a> {
     }
 
     /// The bytes of an entry's name, in a table that [`check`] has accepted.
-    fn name(&self, record: &[u8; 8]) -> &'a [u8] {
+    pub fn name(&self, record: &[u8; 8]) -> &'a [u8] {
         let entry = Entry::read(record);
         &self.text[entry.name_at as usize..][..usize::from(entry.name_len)]
+    }
+
+    /// The body of a symbolic link, in a table that [`check`] has accepted.
+    pub fn body(&self, link: Node) -> &'a [u8] {
+        &self.text[link.first as usize..][..link.count as usize]
     }
 
     /// The entry of this name in a directory, whose names are sorted. A function for the
@@ -737,7 +752,7 @@ impl Walk<'_> {
                         }
                         continue;
                     }
-                    let body = &table.text[node.first as usize..][..node.count as usize];
+                    let body = table.body(node);
                     if body.starts_with(b"/") {
                         self.meet(Event::Jump)?;
                         self.place = self.root;

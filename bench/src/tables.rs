@@ -68,7 +68,7 @@ const CASES: &[Case] = &[
     Case {
         name: "check-worst",
         about: "2,048 magic links over 256 mounts of a chain of 2,048 directories",
-        build: || accepted(&magic_links()),
+        build: || accepted(&magic_links(1_780)),
     },
     Case {
         name: "walk-tare",
@@ -180,7 +180,7 @@ pub fn letters(len: usize) -> Vec<u8> {
     std::iter::repeat_with(next).take(len).collect()
 }
 
-fn many_entries() -> Tree {
+pub fn many_entries() -> Tree {
     let (mut tree, top) = Tree::mounted();
     let sizes: [usize; 12] = [1, 2, 3, 5, 8, 13, 21, 34, 55, 89, 144, 233];
     let directories: Vec<usize> =
@@ -201,7 +201,7 @@ fn many_entries() -> Tree {
     tree
 }
 
-fn long_names() -> Tree {
+pub fn long_names() -> Tree {
     let (mut tree, top) = Tree::mounted();
     let alike = "n".repeat(125);
     for i in 0..8 {
@@ -225,7 +225,7 @@ fn shared_names() -> Tree {
     tree
 }
 
-fn many_links() -> Tree {
+pub fn many_links() -> Tree {
     let (mut tree, _) = Tree::mounted();
     let source = letters(18);
     for i in 0..3_000 {
@@ -255,7 +255,7 @@ fn deep_chain() -> Tree {
     tree
 }
 
-fn many_mounts() -> Tree {
+pub fn many_mounts() -> Tree {
     let (mut tree, top) = Tree::mounted();
     for i in 1..256 {
         let point = tree.named_directory(top, &format!("m{i:03}"));
@@ -268,10 +268,11 @@ fn many_mounts() -> Tree {
     tree
 }
 
-fn magic_links() -> Tree {
+/// As many of the chain have a name as `named` says.
+pub fn magic_links(named: usize) -> Tree {
     let (mut tree, top) = Tree::mounted();
     let name = tree.text(b"d");
-    let chain = tree.chain(top, &name, 2_047, 1_780);
+    let chain = tree.chain(top, &name, 2_047, named);
     let from_end = |i: usize| chain[chain.len() - 1 - i];
     for i in 1..256 {
         tree.mount(chain[i - 1], 0, from_end(i));

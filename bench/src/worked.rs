@@ -1,5 +1,6 @@
 //! The list of worked cases (tests/cases), asked of every side.
 
+use crate::builds;
 use crate::descriptors;
 #[cfg(feature = "proved")]
 use crate::lookups;
@@ -16,7 +17,7 @@ use ventolaire::{FoundName, NameRefusal, Table};
 #[cfg(feature = "proved")]
 use ventolaire_sys::ventolaire_lookup;
 
-/// A table check or a call as an input, None for calls on descriptors and lookups.
+/// A table check or a call as an input, None for what is asked otherwise.
 fn input(case: &Worked) -> Option<Input> {
     let call = match &case.asked {
         Asked::Check => Call::Check,
@@ -25,7 +26,7 @@ fn input(case: &Worked) -> Option<Input> {
             path: path.clone(),
             how: how.clone(),
         },
-        Asked::Sequence(_) | Asked::Lookup(_) => return None,
+        Asked::Sequence(_) | Asked::Lookup(_) | Asked::Build(_) => return None,
     };
     let mut expected = [0; 6];
     expected[..case.expected.len()].copy_from_slice(&case.expected);
@@ -38,6 +39,7 @@ fn answers(side: Side, case: &Worked) -> Vec<Vec<u64>> {
     match (&case.asked, input(case)) {
         (Asked::Sequence(steps), _) => replies(side, &case.image, steps),
         (Asked::Lookup(lookup), _) => looked_up(side, &case.image, lookup),
+        (Asked::Build(build), _) => built(side, build),
         (_, Some(input)) if side.takes_part(&input) => {
             side.answers(&input).iter().map(|answer| answer[..numbers].to_vec()).collect()
         }
@@ -123,6 +125,17 @@ fn named(answer: Result<FoundName, NameRefusal>) -> lookups::Numbers {
         Ok(FoundName { entry, node, compared, .. }) => [0, entry, node, compared],
         Err(NameRefusal { errno, compared, .. }) => [errno.number(), 0, 0, compared],
     }
+}
+
+/// The answer to a build; where the buffer is not as it should be, a 1 follows. The tests of
+/// `bindings/rust` ask the same of that.
+fn built(side: Side, build: &worked::Build) -> Vec<Vec<u64>> {
+    if matches!(side, Side::Linear) {
+        return Vec::new();
+    }
+    let (numbers, image) = builds::built(side, build);
+    let is_right = image.as_ref() == Ok(&build.written);
+    vec![numbers.into_iter().chain((!is_right).then_some(1)).collect()]
 }
 
 /// What a side has to answer.

@@ -12,6 +12,7 @@ pub enum Command {
     Show { image: OsString, form: Form },
     Resolve(Query),
     Lookup(Lookup),
+    Canonical(Canonical),
     Script { image: OsString, calls: OsString, json: bool },
     Demo { file: Option<OsString>, json: bool },
 }
@@ -40,6 +41,18 @@ pub struct Lookup {
     pub names: Asked,
 }
 
+pub struct Canonical {
+    pub image: OsString,
+    pub goal: Goal,
+}
+
+/// What is done with the one image of a tree.
+pub enum Goal {
+    Check { json: bool },
+    Print,
+    Write { file: OsString, force: bool },
+}
+
 /// Paths or names, to be answered one by one.
 pub struct Asked {
     /// What each of them is.
@@ -65,6 +78,7 @@ const COMMANDS: &[(&str, &[&str])] = &[
         &["--handle", "--mark", "--flag", "--resolve", "--how", "--paths-from", "--null", "--json"],
     ),
     ("lookup", &["--names-from", "--null", "--json"]),
+    ("canonical", &["--output", "--force", "--check", "--json"]),
     ("script", &["--json"]),
     ("demo", &["--json"]),
 ];
@@ -103,6 +117,7 @@ pub fn read(mut arguments: impl Iterator<Item = OsString>) -> Result<Command, St
         "check" => Ok(Command::Check { image: only(command, &parts)?, json }),
         "show" => Ok(Command::Show { image: only(command, &parts)?, form: form(&parts)? }),
         "lookup" => lookup(&parts).map(Command::Lookup),
+        "canonical" => canonical(&parts).map(Command::Canonical),
         "script" => script(&parts),
         "demo" => Ok(Command::Demo { file: demo_file(&parts)?, json }),
         _ => query(&parts).map(Command::Resolve),
@@ -140,6 +155,22 @@ fn script(parts: &Parts) -> Result<Command, String> {
         return Err("IMAGE and the calls cannot both be standard input".into());
     }
     Ok(Command::Script { image, calls, json: parts.has("--json") })
+}
+
+fn canonical(parts: &Parts) -> Result<Canonical, String> {
+    let image = only("canonical", parts)?;
+    parts.exclude("--check", "--output")?;
+    let goal = match (parts.value("--output"), parts.has("--check")) {
+        (Some(file), _) if input::is_stdin(file) => {
+            return Err("--output wants a file; write ./- for one of that name".into());
+        }
+        (None, _) if parts.has("--force") => return Err("--force wants --output".into()),
+        (_, false) if parts.has("--json") => return Err("--json wants --check".into()),
+        (_, true) => Goal::Check { json: parts.has("--json") },
+        (None, _) => Goal::Print,
+        (Some(file), _) => Goal::Write { file: file.clone(), force: parts.has("--force") },
+    };
+    Ok(Canonical { image, goal })
 }
 
 fn demo_file(parts: &Parts) -> Result<Option<OsString>, String> {

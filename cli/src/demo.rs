@@ -4,10 +4,8 @@ use crate::answer::Answer;
 use crate::asked::Answered;
 use crate::json::{quoted, Object};
 use crate::output::{Failure, Output};
-use crate::{escape, input, place};
+use crate::{escape, file, input, place};
 use std::ffi::OsStr;
-use std::fs::{self, File};
-use std::io::{self, Write};
 use ventolaire::bench_tree::{Row, IMAGE, TABLE};
 use ventolaire::{Place, Refusal, Table};
 
@@ -17,7 +15,7 @@ pub fn run(file: Option<&OsStr>, json: bool, output: &mut Output) -> Result<(), 
     let image = match file {
         Some(file) => {
             let name = escape::name(file);
-            create(file).map_err(|error| format!("cannot write {name}: {error}"))?;
+            file::create(file, IMAGE).map_err(|error| format!("cannot write {name}: {error}"))?;
             if !json {
                 output.line(format_args!("{name}: the bench tree, {} bytes\n", IMAGE.len()))?;
             }
@@ -43,16 +41,6 @@ pub fn run(file: Option<&OsStr>, json: bool, output: &mut Output) -> Result<(), 
         in_text(row, got, output)?;
     }
     output.line(format_args!("{passed} passed, {failed} failed"))
-}
-
-/// Makes the file: a new one, whole or not at all.
-fn create(file: &OsStr) -> io::Result<()> {
-    let written = File::create_new(file)?.write_all(IMAGE);
-    if written.is_err() {
-        // It is ours, and of no use. That it could not be written is told.
-        let _ = fs::remove_file(file);
-    }
-    written
 }
 
 fn in_text(row: &Row, got: &Answer, output: &mut Output) -> Result<(), Failure> {

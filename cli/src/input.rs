@@ -86,7 +86,8 @@ impl<'a> Parted<'a> {
     }
 }
 
-fn shown(file: &OsStr) -> String {
+/// A file's name, to stand in a message.
+pub fn shown(file: &OsStr) -> String {
     match is_stdin(file) {
         true => "standard input".into(),
         false => escape::name(file),

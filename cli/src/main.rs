@@ -4,10 +4,12 @@ mod answer;
 mod arguments;
 mod asked;
 mod call;
+mod canonical;
 mod demo;
 mod dot;
 mod escape;
 mod explain;
+mod file;
 mod input;
 mod json;
 mod list;
@@ -51,6 +53,7 @@ fn run(command: Command, output: &mut Output) -> Result<(), Failure> {
         Command::Show { image, form } => show(&image, form, output),
         Command::Resolve(query) => resolve::run(&query, output),
         Command::Lookup(lookup) => lookup::run(&lookup, output),
+        Command::Canonical(asked) => canonical::run(&asked, output),
         Command::Script { image, calls, json } => script::run(&image, &calls, json, output),
         Command::Demo { file, json } => demo::run(file.as_deref(), json, output),
     }
@@ -72,8 +75,8 @@ fn show(file: &OsStr, form: Form, output: &mut Output) -> Result<(), Failure> {
     let table = explain::table(&image)
         .map_err(|why| format!("cannot show {}: {why}", escape::name(file)))?;
     match form {
-        Form::Text => output.write(&show::tree(&table)),
-        Form::Dot => output.write(&dot::graph(&table)),
+        Form::Text => output.write(show::tree(&table)),
+        Form::Dot => output.write(dot::graph(&table)),
         Form::Json => output.line(list::table(&table)),
     }
 }

@@ -27,6 +27,9 @@ const OPTIONS: &[Known] = &[
     known("--paths-from", "", true),
     known("--names-from", "", true),
     known("--null", "-0", false),
+    known("--output", "-o", true),
+    known("--force", "", false),
+    known("--check", "", false),
 ];
 
 /// The arguments behind the command.

@@ -27,8 +27,8 @@ impl Output {
         Output { to: BufWriter::new(io::stdout()), refused: false }
     }
 
-    pub fn write(&mut self, text: &str) -> Result<(), Failure> {
-        self.to.write_all(text.as_bytes()).map_err(failure)
+    pub fn write(&mut self, bytes: impl AsRef<[u8]>) -> Result<(), Failure> {
+        self.to.write_all(bytes.as_ref()).map_err(failure)
     }
 
     pub fn line(&mut self, text: impl Display) -> Result<(), Failure> {

@@ -10,7 +10,7 @@ use ventolaire::bench_tree::IMAGE;
 
 const PAGE: &str = include_str!("../../docs/man/ventolaire.1");
 const COMPLETION: &str = include_str!("../../completions/ventolaire.bash");
-const COMMANDS: [&str; 6] = ["check", "show", "resolve", "lookup", "script", "demo"];
+const COMMANDS: [&str; 7] = ["check", "show", "resolve", "lookup", "canonical", "script", "demo"];
 
 fn file(name: &str) -> PathBuf {
     Path::new(env!("CARGO_MANIFEST_DIR")).join("..").join(name)
@@ -96,6 +96,14 @@ fn the_names_told_are_answered_so() {
     }
 }
 
+/// So is the image that the man page tells the verdict on.
+#[test]
+fn the_verdict_told_is_given_so() {
+    let image = Named::file(IMAGE);
+    let (status, line) = answer(["canonical", image.path(), "--check"]);
+    assert!(status == 1 && PAGE.contains(line.trim_end()), "{line}");
+}
+
 /// What bash offers behind these words.
 fn completed(words: &[&str]) -> Vec<String> {
     let script = r#". "$0"; COMP_WORDS=("$@"); COMP_CWORD=$(($# - 1)); _ventolaire
@@ -135,6 +143,10 @@ fn the_completion_completes() {
         (&["lookup", "x", "2", "--names-from", "Cargo.t"], &["Cargo.toml"]),
         (&["script", "x", "Cargo.t"], &["Cargo.toml"]),
         (&["script", "x", "--j"], &["--json"]),
+        (&["can"], &["canonical"]),
+        (&["canonical", "x", "--"], &["--output", "--force", "--check", "--json", "--help"]),
+        (&["canonical", "x", "-o", "Cargo.t"], &["Cargo.toml"]),
+        (&["canonical", "x", "--output", "=", "Cargo.t"], &["Cargo.toml"]),
         (&["nothing", "x"], &[]),
     ];
     for (words, offered) in rows {

@@ -31,6 +31,8 @@ fn unreadable(file: &str, why: &str) {
         }
     }
     assert_eq!(error(["show", "--dot", file]), message);
+    assert_eq!(error(["canonical", file]), message);
+    assert_eq!(error(["canonical", "--check", file]), message);
 }
 
 /// What each command says of bytes that are no table.
@@ -43,6 +45,9 @@ fn refused(file: &str, why: &str) {
     for arguments in [&["show", file][..], &["show", file, "--dot"], &["show", file, "--json"]] {
         assert_eq!(error(arguments), format!("cannot show {file}: {why}"));
     }
+    assert_eq!(answer(["canonical", file, "--check"]), (1, format!("{why}\n")));
+    let shown = if file == "-" { "standard input" } else { file };
+    assert_eq!(error(["canonical", file]), format!("cannot write {shown} anew: {why}"));
     let calls = Named::file(b"close 0\n");
     let output = program().args(["script", file, calls.path()]).output().unwrap();
     assert_eq!(output.status.code(), Some(1));
@@ -191,6 +196,8 @@ fn a_reader_that_leaves_early() {
         (&["resolve", image.path(), "no", "no"], 1),
         (&["lookup", image.path(), "2", "up", "t"], 0),
         (&["lookup", image.path(), "2", "up", "no"], 1),
+        (&["canonical", image.path()], 0),
+        (&["canonical", image.path(), "--check"], 1),
         (&["script", image.path(), script.path()], 0),
         (&endless, 1),
     ];
@@ -222,6 +229,8 @@ fn a_full_disk() {
         &["resolve", image.path(), "--paths-from", "/dev/zero", "-0"],
         &["lookup", image.path(), "2", "up"],
         &["lookup", image.path(), "2", "--names-from", "/dev/zero", "-0"],
+        &["canonical", image.path()],
+        &["canonical", image.path(), "--check"],
         &["script", image.path(), script.path()],
     ];
     for arguments in rows {
@@ -231,18 +240,27 @@ fn a_full_disk() {
     }
 }
 
-/// What could not be written whole is taken back. The test gives `demo` names in its
-/// own folder alone: a program that is wrong here may remove what it is given.
+/// What could not be written whole is taken back. The test gives the program names in its
+/// own folder alone: one that is wrong here may remove what it is given.
 #[test]
 fn an_image_that_cannot_be_written_whole() {
-    let file = Named::new();
-    let script = r#"trap '' XFSZ; ulimit -f 0; exec "$0" demo "$1""#;
-    let program = env!("CARGO_BIN_EXE_ventolaire");
-    let Ok(output) = Command::new("bash").args(["-c", script, program, file.path()]).output()
-    else {
-        return;
-    };
-    let message = format!("cannot write {}: File too large (os error 27)", file.path());
-    assert_eq!(failed(output), message);
-    assert!(!file.0.exists());
+    let (image, folder) = (Named::file(IMAGE), Named::new());
+    fs::create_dir(&folder.0).unwrap();
+    let (new, old) = (folder.0.join("new"), folder.0.join("old"));
+    fs::write(&old, b"old").unwrap();
+    let script = r#"trap '' XFSZ; ulimit -f 0; exec "$0" "$@""#;
+    for (file, words) in [
+        (&new, &["demo"][..]),
+        (&new, &["canonical", image.path(), "-o"]),
+        (&old, &["canonical", image.path(), "--force", "-o"]),
+    ] {
+        let mut bash = Command::new("bash");
+        bash.args(["-c", script, env!("CARGO_BIN_EXE_ventolaire")]).args(words).arg(file);
+        let Ok(output) = bash.output() else { return };
+        let message = format!("cannot write {}: File too large (os error 27)", file.display());
+        assert_eq!(failed(output), message);
+        assert_eq!(fs::read_dir(&folder.0).unwrap().count(), 1);
+        assert_eq!(fs::read(&old).unwrap(), b"old");
+    }
+    fs::remove_file(old).unwrap();
 }

@@ -11,9 +11,14 @@ fn help_and_version_are_given() {
     let (status, help) = answer(["--help"]);
     assert_eq!(status, 0);
     assert!(help.contains("USAGE") && help.contains("EXIT STATUS") && help.contains("(default: "));
-    for arguments in
-        [&["-h"][..], &["help"], &["resolve", "--help"], &["lookup", "--help"], &["script", "-h"]]
-    {
+    for arguments in [
+        &["-h"][..],
+        &["help"],
+        &["resolve", "--help"],
+        &["lookup", "--help"],
+        &["canonical", "-h"],
+        &["script", "-h"],
+    ] {
         assert_eq!(answer(arguments), (0, help.clone()));
     }
     for name in names() {
@@ -104,6 +109,27 @@ fn wrong_usage_of_lookup_is_told_in_one_line() {
 }
 
 #[test]
+fn wrong_usage_of_canonical_is_told_in_one_line() {
+    let rows: &[(&[&str], &str)] = &[
+        (&["canonical"], "canonical wants IMAGE"),
+        (&["canonical", "a", "b"], "canonical has no use for b"),
+        (&["canonical", "a", "--dot"], "canonical has no option --dot"),
+        (&["canonical", "a", "-o"], "--output wants a value"),
+        (&["canonical", "a", "-o", "-"], "--output wants a file; write ./- for one of that name"),
+        (&["canonical", "a", "--force"], "--force wants --output"),
+        (&["canonical", "a", "--check", "--force"], "--force wants --output"),
+        (&["canonical", "a", "--json"], "--json wants --check"),
+        (&["canonical", "a", "-o", "b", "--json"], "--json wants --check"),
+        (&["canonical", "a", "-o", "b", "--check"], "--check and --output exclude each other"),
+        (&["check", "a", "--check"], "check has no option --check"),
+        (&["demo", "a", "--force"], "demo has no option --force"),
+    ];
+    for (arguments, text) in rows {
+        assert_eq!(error(*arguments), *text, "{arguments:?}");
+    }
+}
+
+#[test]
 fn wrong_usage_of_script_is_told_in_one_line() {
     let rows: &[(&[&str], &str)] = &[
         (&["script"], "script wants IMAGE"),
@@ -158,6 +184,9 @@ fn messages_are_escaped() {
     assert_eq!(error([resolve.clone(), odd.clone(), "a".into()]), no_file);
     assert!(error([check.clone(), "a".into(), odd.clone()]).ends_with(shown));
     assert!(error([lookup, "a".into(), odd.clone(), "b".into()]).ends_with(shown));
+    let [canonical, image] = ["canonical", env!("CARGO_BIN_EXE_ventolaire")].map(OsString::from);
+    assert!(error([canonical.clone(), odd.clone(), "--check".into()]).contains(shown));
+    assert!(error([canonical, image, "-o".into(), odd.clone()]).starts_with("cannot write "));
     let there = bytes(b"/no/\x07");
     assert!(error([demo, there]).starts_with("cannot write /no/\\x07: "));
     let option = bytes(b"--\xff=\x1b");

@@ -1,4 +1,6 @@
-"""Table images, built from their records. Nothing here knows an answer."""
+"""Table images, built from their records, and the parts that the library builds images from. Nothing here knows an answer."""
+
+from collections import namedtuple
 
 DIRECTORY, FILE, SYMLINK, MAGIC = 1, 2, 3, 4
 
@@ -103,12 +105,16 @@ def _at(image, kind, record):
     return 20 + 12 * nodes + 8 * record + (8 * mounts if kind == "entry" else 0)
 
 
-def _change(image, kind, record, fields):
-    at = _at(image, kind, record)
+def _set(whole, at, kind, fields):
+    """The bytes with fields changed of the record that begins at a place."""
     for name, value in fields.items():
         offset, width = LAYOUT[kind][name]
-        image = put(image, at + offset, value, width)
-    return image
+        whole = put(whole, at + offset, value, width)
+    return whole
+
+
+def _change(image, kind, record, fields):
+    return _set(image, _at(image, kind, record), kind, fields)
 
 
 def node(image, record, **fields):
@@ -136,3 +142,59 @@ def one_byte(image, kind, record, name, byte, value):
     offset, width = LAYOUT[kind][name]
     assert byte < width
     return put(image, _at(image, kind, record) + offset + byte, value, 1)
+
+
+def _records(kind, rows):
+    widths = [width for _, width in LAYOUT[kind].values()]
+    return b"".join(number(value, width) for row in rows for value, width in zip(row, widths, strict=True))
+
+
+def nodes(*rows):
+    """Node records: kind, parent, first, count."""
+    return _records("node", rows)
+
+
+def mounts(*rows):
+    """Mount records: root, parent, point; the last field is zero."""
+    return _records("mount", [(*row, 0) for row in rows])
+
+
+def entries(*rows):
+    """Entry records: offset and length of the name, node."""
+    return _records("entry", rows)
+
+
+def spelled(head, *parts):
+    """An image whose counts, text length and total length are spelled out, as its parts are."""
+    image = header(*head) + b"".join(parts)
+    assert len(image) == head[-1]
+    return image
+
+
+class Source(namedtuple("Source", "nodes mounts entries text")):
+    """What an image is built from: the bytes of node, mount and entry records, and a text."""
+
+    def node(self, record, **fields):
+        return self._replace(nodes=_set(self.nodes, 12 * record, "node", fields))
+
+    def mount(self, record, **fields):
+        return self._replace(mounts=_set(self.mounts, 8 * record, "mount", fields))
+
+    def entry(self, record, **fields):
+        return self._replace(entries=_set(self.entries, 8 * record, "entry", fields))
+
+    def placed(self, text, names, bodies):
+        """The same records over another text: offsets of the names, in entry order, and of the bodies, by their nodes."""
+        source = self._replace(text=text)
+        assert len(names) == len(self.entries) // 8
+        for record, at in enumerate(names):
+            source = source.entry(record, offset=at)
+        for record, at in bodies.items():
+            source = source.node(record, first=at)
+        return source
+
+
+def source(image):
+    """The parts of an image whose counts are right."""
+    ends = [20, _at(image, "mount", 0), _at(image, "entry", 0), _at(image, "entry", field(image, 8, 2)), len(image)]
+    return Source(*(image[start:end] for start, end in zip(ends, ends[1:])))

@@ -1,8 +1,8 @@
 """The list of cases, and the words that it is written in.
 
 A group has a title, `says` quotes the wording of the rules that the cases after it follow from, with their numbers in
-docs/RULES.md, and a case is a call, a table check or a lookup with the answer that these give. No answer is computed: each is written
-down.
+docs/RULES.md, and a case is a call, a table check, a lookup or a build with the answer that these give. No answer is computed: each is
+written down.
 
 Descriptors are used in sequences: `start` makes them, and each `open_path`, `dup`, `close` and `set_mark` after it, up to the next `start`,
 is a case that finds them as the calls before have left them. A sequence's cases have its name and their number in it."""
@@ -11,10 +11,10 @@ from image import number
 
 EUCLEAN, E2BIG, EINVAL, ENAMETOOLONG, ENOENT = 117, 7, 22, 36, 2
 EBADF, ENOTDIR, ELOOP, EXDEV = 9, 20, 40, 18
-EMFILE, ENOTTY = 24, 25
+EMFILE, ENOTTY, ERANGE = 24, 25, 34
 ERRNOS = {
     117: "EUCLEAN", 7: "E2BIG", 22: "EINVAL", 36: "ENAMETOOLONG", 2: "ENOENT",
-    9: "EBADF", 20: "ENOTDIR", 40: "ELOOP", 18: "EXDEV", 24: "EMFILE", 25: "ENOTTY",
+    9: "EBADF", 20: "ENOTDIR", 40: "ELOOP", 18: "EXDEV", 24: "EMFILE", 25: "ENOTTY", 34: "ERANGE",
 }
 
 O_DIRECTORY, O_NOFOLLOW, O_PATH, O_CLOEXEC = 0x10000, 0x20000, 0x200000, 0x80000
@@ -25,7 +25,10 @@ RESOLVE = {1: "NO_XDEV", 2: "NO_MAGICLINKS", 4: "NO_SYMLINKS", 8: "BENEATH", 16:
 LAB = (0, 1)
 
 # The kinds of records.
-CHECK, CALL, START, OPEN, DUP, CLOSE, SET_MARK, LOOKUP = range(1, 9)
+CHECK, CALL, START, OPEN, DUP, CLOSE, SET_MARK, LOOKUP, BUILD = range(1, 10)
+
+# The most bytes that an image has.
+MOST = 65536
 
 
 def found(mount, node, components, links):
@@ -55,6 +58,31 @@ def absent(compared):
     return unnamed(ENOENT, compared)
 
 
+def written(image):
+    """What a build answers that writes this image, and the image."""
+    return (0, 0, 0, len(image)), image
+
+
+def unwritten(rule, record=0):
+    """What one answers whose image would break a rule."""
+    return (EUCLEAN, rule, record, 0), b""
+
+
+def short(length):
+    """What one answers whose buffer is shorter than its image, which has this length."""
+    return (ERANGE, 0, 0, length), b""
+
+
+class Whatever:
+    """So many bytes of a part whose bytes do not matter: the list has no bytes of their own for them."""
+
+    def __init__(self, length):
+        self.length = length
+
+    def __len__(self):
+        return self.length
+
+
 DONE = found(0, 0, 0, 0)
 ACCEPTED = (0, 0)
 
@@ -74,6 +102,7 @@ class Case:
         self.shown, self.family, self.sequence = shown, family, None
         self.kind, self.path, self.how = CHECK, b"", b""
         self.mount, self.node, self.mark = 0, 0, False
+        self.text, self.written = b"", b""
 
 
 class Sentence:
@@ -155,6 +184,16 @@ def lookup(name, node, asked, answer, table=None, shown=None):
     _add(case)
 
 
+def build(name, source, answer, shown, room=MOST, family=None):
+    """The image of four parts, asked for with a buffer of `room` bytes."""
+    numbers, image = answer
+    words = shown if room == MOST else f"{shown}; a buffer of {room:,} bytes"
+    case = Case(name, source.nodes, numbers, words, family)
+    case.kind, case.path, case.how, case.text = BUILD, source.mounts, source.entries, source.text
+    case.mount, case.written = room, image
+    _add(case)
+
+
 def start(name, answer=ACCEPTED, image=None, shown=None):
     """Begins a sequence of calls on descriptors, over a table that may be refused."""
     _now["sequence"], _now["made"] = name, 0
@@ -207,6 +246,9 @@ def in_words(case):
     if case.kind == LOOKUP:
         errno, entry, node, compared = case.answer
         return (ERRNOS[errno] if errno else f"entry {entry}, node {node}") + f"; {compared}"
+    if case.kind == BUILD:
+        errno, rule, record, length = case.answer
+        return {0: f"written; {length:,}", ERANGE: f"ERANGE; {length:,}", EUCLEAN: f"rule {rule}, record {record}"}[errno]
     errno, detail, mount, node, components, links = case.answer[:6]
     counts = f"; {components},{links}"
     if errno != 0:

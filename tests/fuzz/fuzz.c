@@ -1,12 +1,12 @@
 /*
  * Fuzzes the C interface: any bytes as image, path and open_how, any numbers as
- * descriptors, any name looked up in any directory.
+ * descriptors, any name looked up in any directory, any parts built into an image.
  *
  * One input is 8 bytes, then the path, the open_how and the image:
  *
  *   byte  0      bit 0 the mark; bit 1 mend the image's header; bits 2 to 4 a
  *                length of `out` that is too short; bit 5 calls on descriptors;
- *                bit 6 a lookup
+ *                bit 6 a lookup; bit 7 a build
  *   byte  1      the mount
  *   bytes 2, 3   the node
  *   bytes 4, 5   length of the path     (numbers are little-endian, and lengths
@@ -15,7 +15,8 @@
  * With bit 5 set, calls stand in the path's place (descriptors.c says how), and in
  * the open_how's the numbers of slots, 8 bytes each; without any, descriptors are
  * started. With bit 6 set, and not bit 5, the path is a name that is looked up, and
- * bytes 1 to 3 tell the directory (lookup.c).
+ * bytes 1 to 3 tell the directory (lookup.c). With bit 7 alone of these, all bytes are
+ * those of a build (build.c).
  *
  * The library is not instrumented. So that reads beyond what is lent are seen
  * all the same, each part ends where a page begins that nobody may touch; and
@@ -145,7 +146,7 @@ uint64_t number_at(const uint8_t *bytes, size_t len)
     return number;
 }
 
-static void put(uint8_t *bytes, uint64_t number, size_t len)
+void put_number(uint8_t *bytes, uint64_t number, size_t len)
 {
     for (; len-- > 0; number >>= 8)
         *bytes++ = (uint8_t)number;
@@ -169,19 +170,21 @@ static void mend(uint8_t *image, size_t len)
     uint64_t records = 12 * number_at(image + 4, 2) + 8 * number_at(image + 6, 2)
                        + 8 * number_at(image + 8, 2);
     memcpy(image, "TOC1", 4);
-    put(image + 10, 0, 2);
+    put_number(image + 10, 0, 2);
     if (20 + records <= len)
-        put(image + 12, len - 20 - records, 4);
-    put(image + 16, len, 4);
+        put_number(image + 12, len - 20 - records, 4);
+    put_number(image + 16, len, 4);
 }
 
-/* With room for the first nine errnos alone, these are written. */
+/* With room for the first nine or eleven errnos alone, these are written. */
 static void require_errnos(size_t room)
 {
+    static const size_t counts[] = {9, 11, VENTOLAIRE_ERRNOS_LEN};
     uint64_t errnos[OUT_ROOM + VENTOLAIRE_ERRNOS_LEN];
-    size_t written = room >= 9 ? 9 : 0;
-    if (room >= VENTOLAIRE_ERRNOS_LEN)
-        written = VENTOLAIRE_ERRNOS_LEN;
+    size_t written = 0;
+    for (size_t i = 0; i < sizeof counts / sizeof *counts; i++)
+        if (room >= counts[i])
+            written = counts[i];
     prepare(errnos + written);
     require(ventolaire_errnos(room == 0 ? NULL : errnos, room) == written,
             "wrong count of errnos");
@@ -336,7 +339,11 @@ static void run(const uint8_t *head, const uint8_t *data, size_t size)
 
 int LLVMFuzzerTestOneInput(const uint8_t *data, size_t size)
 {
-    if (size >= 8 && size <= ROOM)
+    if (size < 8 || size > ROOM)
+        return 0;
+    if ((data[0] & 0xE0) == 0x80)
+        run_build(data, data + 8, size - 8, (data[0] >> 2 & 7) % VENTOLAIRE_BUILD_LEN);
+    else
         run(data, data + 8, size - 8);
     return 0;
 }

@@ -1,5 +1,5 @@
 /* What the parts of the fuzz target use: the resolver's (fuzz.c), the descriptors'
- * (descriptors.c) and that of lookups (lookup.c). */
+ * (descriptors.c), that of lookups (lookup.c) and that of builds (build.c). */
 #ifndef FUZZ_H
 #define FUZZ_H
 
@@ -56,6 +56,7 @@ void answer_to(struct question question, const struct lent *lent, bool accepted,
                size_t too_short, uint64_t answer[OUT_ROOM]);
 
 uint64_t number_at(const uint8_t *bytes, size_t len);
+void put_number(uint8_t *bytes, uint64_t number, size_t len);
 
 /* Cuts up to `len` bytes off the front. */
 const uint8_t *cut(const uint8_t **data, size_t *size, size_t *len);
@@ -89,5 +90,8 @@ void run_script(struct script script, struct lent lent);
 
 /* The lookup of the path's bytes in the directory that an input's first bytes tell. */
 void run_lookup(const struct lent *lent, const uint8_t *head, bool accepted, size_t too_short);
+
+/* The build of an image from the parts that follow an input's first bytes. */
+void run_build(const uint8_t *head, const uint8_t *data, size_t size, size_t too_short);
 
 #endif

@@ -1,7 +1,7 @@
 /* Writes inputs to start fuzzing from into a folder: the bench tree's image with
  * paths of different kinds, with slots of any numbers and calls on them, and with
- * names that are looked up, also in a larger directory. See fuzz.c, descriptors.c and
- * lookup.c for what an input looks like. */
+ * names that are looked up, also in a larger directory; and its parts, to be built. See
+ * fuzz.c, descriptors.c, lookup.c and build.c for what an input looks like. */
 
 #include <stdbool.h>
 #include <stdint.h>
@@ -99,6 +99,15 @@ static void fill_many(void)
     memset(entry + 14, 'b', 17);
 }
 
+/* Builds of the bench tree: the bytes 0 and 1 of their inputs. A room of 0 to 3 numbers
+ * is tried, and a buffer that is just enough, one byte too short, longer, and empty. */
+static const uint8_t builds[][2] = {
+    {128, 192},
+    {128 | 1 << 2, 191},
+    {128 | 2 << 2 | 2, 255},
+    {128 | 3 << 2 | 1, 0},
+};
+
 struct bytes {
     const void *bytes;
     size_t len;
@@ -175,6 +184,14 @@ static bool write_run(const char *folder, size_t i)
                        (struct bytes){many, sizeof many});
 }
 
+static bool write_build(const char *folder, size_t i)
+{
+    /* The lengths of 12 nodes, 2 mounts and 10 entries. */
+    uint8_t head[8] = {builds[i][0], builds[i][1], 12 * 12, 0, 2 * 8, 0, 10 * 8};
+    return write_input(folder, "build", i, head, nothing, nothing,
+                       (struct bytes){bench_tree + 20, sizeof bench_tree - 20});
+}
+
 int main(int argc, char **argv)
 {
     if (argc == 2 && strcmp(argv[1], "--help") == 0) {
@@ -197,6 +214,9 @@ int main(int argc, char **argv)
     fill_many();
     for (size_t i = 0; i < sizeof runs / sizeof *runs; i++)
         if (!write_run(argv[1], i))
+            return 1;
+    for (size_t i = 0; i < sizeof builds / sizeof *builds; i++)
+        if (!write_build(argv[1], i))
             return 1;
     return 0;
 }

@@ -38,6 +38,8 @@ pub enum Errno {
     EMFILE,
     /// The mark is set on what is not a directory.
     ENOTTY,
+    /// The buffer is too short for the image that is to be written.
+    ERANGE,
     /// A number that this crate has no name for.
     Other(u64),
 }
@@ -62,6 +64,7 @@ impl Errno {
         Errno::EXDEV,
         Errno::EMFILE,
         Errno::ENOTTY,
+        Errno::ERANGE,
     ];
 
     /// The errno of a number.
@@ -95,6 +98,7 @@ impl Errno {
             Errno::EXDEV => 18,
             Errno::EMFILE => 24,
             Errno::ENOTTY => 25,
+            Errno::ERANGE => 34,
             Errno::Other(number) => number,
         }
     }
@@ -117,6 +121,7 @@ impl Errno {
             Errno::EXDEV => "EXDEV",
             Errno::EMFILE => "EMFILE",
             Errno::ENOTTY => "ENOTTY",
+            Errno::ERANGE => "ERANGE",
             Errno::Other(_) => "unknown errno",
         }
     }

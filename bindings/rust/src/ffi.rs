@@ -1,11 +1,11 @@
 //! The library's C functions called, and all of this crate that is unsafe.
 //!
-//! Those that want an accepted image are given a `Table`: the check alone makes one, and the
-//! image that it borrows has not changed since.
+//! Those that want an accepted image are given a `Table`: the check makes one, or the builder,
+//! whose images the check accepts, and the image that it borrows has not changed since.
 
-use crate::{Handle, Table};
+use crate::{Handle, Parts, Table};
 use ventolaire_sys::{
-    ventolaire_check, ventolaire_close, ventolaire_dup, ventolaire_lookup,
+    ventolaire_build, ventolaire_check, ventolaire_close, ventolaire_dup, ventolaire_lookup,
     ventolaire_lookup_accepted, ventolaire_open_accepted, ventolaire_resolve,
     ventolaire_resolve_accepted, ventolaire_set_mark, ventolaire_start_accepted, Lookup, Open,
     Resolve, VENTOLAIRE_DESCRIPTORS,
@@ -185,6 +185,48 @@ pub fn set_mark(table: &Table, slots: &mut Slots, number: u64) -> [u64; 7] {
         ventolaire_set_mark(image.as_ptr(), image.len(), slots, number, out.as_mut_ptr(), out.len())
     };
     out
+}
+
+/// An image that [`build`] has written.
+pub struct Built<'a>(&'a [u8]);
+
+impl<'a> Built<'a> {
+    pub fn bytes(&self) -> &'a [u8] {
+        self.0
+    }
+}
+
+/// The image, or errno, rule, record and bytes.
+pub fn build<'a>(parts: &Parts, buffer: &'a mut [u8]) -> Result<Built<'a>, [u64; 4]> {
+    let mut out = [UNWRITTEN; 4];
+    // SAFETY: the pointers and lengths are those of slices that this call alone borrows.
+    unsafe { build_to(parts, (buffer.as_mut_ptr(), buffer.len()), (out.as_mut_ptr(), out.len())) };
+    let len = usize::try_from(out[3]).ok().filter(|_| out[0] == 0);
+    len.and_then(|len| buffer.get(..len)).map(Built).ok_or(out)
+}
+
+/// # Safety
+///
+/// The buffer and the output may be written to for their lengths.
+unsafe fn build_to(parts: &Parts, buffer: (*mut u8, usize), out: (*mut u64, usize)) -> usize {
+    let Parts { nodes, mounts, entries, text } = parts;
+    // SAFETY: as in `check`; the parts are read as `image` is. For the rest, the caller's word.
+    unsafe {
+        ventolaire_build(
+            nodes.as_ptr(),
+            nodes.len(),
+            mounts.as_ptr(),
+            mounts.len(),
+            entries.as_ptr(),
+            entries.len(),
+            text.as_ptr(),
+            text.len(),
+            buffer.0,
+            buffer.1,
+            out.0,
+            out.1,
+        )
+    }
 }
 
 #[cfg(test)]

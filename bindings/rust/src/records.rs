@@ -9,7 +9,7 @@ mod cause;
 
 pub use cause::{Cause, Record};
 
-use crate::Place;
+use crate::{Parts, Place};
 use core::fmt;
 use core::iter::{Enumerate, FusedIterator};
 use core::slice::Iter;
@@ -115,26 +115,33 @@ impl Mount {
     }
 }
 
-/// The four parts of a table.
+/// The records of a table and their text.
 #[derive(Clone, Copy, Default)]
-pub(crate) struct Parts<'a> {
+pub(crate) struct Records<'a> {
     nodes: &'a [[u8; NODE]],
     mounts: &'a [[u8; MOUNT]],
     entries: &'a [[u8; ENTRY]],
     text: &'a [u8],
 }
 
-impl<'a> Parts<'a> {
+impl<'a> Records<'a> {
     /// The parts of an image, cut by the counts in its header.
     pub(crate) fn of(image: &'a [u8]) -> Self {
         let Some((header, rest)) = image.split_first_chunk::<20>() else {
-            return Parts::default();
+            return Records::default();
         };
         let [_, _, _, _, n0, n1, m0, m1, e0, e1, ..] = *header;
         let (nodes, rest) = records(rest, [n0, n1]);
         let (mounts, rest) = records(rest, [m0, m1]);
         let (entries, text) = records(rest, [e0, e1]);
-        Parts { nodes, mounts, entries, text }
+        Records { nodes, mounts, entries, text }
+    }
+
+    /// The bytes of the records, and the text.
+    pub(crate) fn parts(self) -> Parts<'a> {
+        let Records { nodes, mounts, entries, text } = self;
+        let (nodes, mounts) = (nodes.as_flattened(), mounts.as_flattened());
+        Parts { nodes, mounts, entries: entries.as_flattened(), text }
     }
 
     pub(crate) fn nodes(self) -> Nodes<'a> {
@@ -218,7 +225,7 @@ fn long(bytes: [u8; 4]) -> u64 {
 #[derive(Clone)]
 #[must_use = "iterators do nothing unless they are asked"]
 pub struct Nodes<'a> {
-    parts: Parts<'a>,
+    parts: Records<'a>,
     records: Enumerate<Iter<'a, [u8; NODE]>>,
 }
 

@@ -1,6 +1,7 @@
-use crate::records::{Entries, Mount, Mounts, Node, Nodes, Parts};
+use crate::ffi::Built;
+use crate::records::{Entries, Mount, Mounts, Node, Nodes, Records};
 use crate::{answer, check, ffi, lookup, AsPath, Broken, Descriptors, Found, FoundName, Handle};
-use crate::{NameRefusal, OpenHow, Refusal};
+use crate::{NameRefusal, OpenHow, Parts, Refusal};
 use core::fmt;
 
 /// A table that was checked: resolves any number of paths and looks up any number of
@@ -33,9 +34,10 @@ use core::fmt;
 /// ```
 #[derive(Clone, Copy)]
 pub struct Table<'a> {
-    /// Accepted by the check: [`Table::new`] alone makes a table. `ffi` relies on it.
+    /// Accepted by the check: [`Table::new`] makes a table of what it accepts, [`Table::built`]
+    /// of what the builder has written. `ffi` relies on it.
     image: &'a [u8],
-    parts: Parts<'a>,
+    records: Records<'a>,
 }
 
 impl<'a> Table<'a> {
@@ -49,7 +51,13 @@ impl<'a> Table<'a> {
     /// ```
     pub fn new(image: &'a [u8]) -> Result<Self, Broken> {
         check(image)?;
-        Ok(Table { image, parts: Parts::of(image) })
+        Ok(Table { image, records: Records::of(image) })
+    }
+
+    /// The table of an image that `ffi` had built, and so one that the check accepts.
+    pub(crate) fn built(image: Built<'a>) -> Self {
+        let image = image.bytes();
+        Table { image, records: Records::of(image) }
     }
 
     /// The image that it was made of.
@@ -171,6 +179,22 @@ impl<'a> Table<'a> {
         Descriptors::start(*self)
     }
 
+    /// What it consists of, to be built again: the image of [`Parts::build`] holds the same tree,
+    /// its text in order and nothing in it twice.
+    ///
+    /// ```
+    /// use ventolaire::{bench_tree, Table};
+    ///
+    /// let parts = Table::new(bench_tree::IMAGE)?.parts();
+    /// assert_eq!((parts.nodes.len(), parts.mounts.len(), parts.entries.len()), (144, 16, 80));
+    /// let mut buffer = [0; 400];
+    /// assert_eq!(parts.build_into(&mut buffer)?.image().len(), 316);
+    /// # Ok::<(), Box<dyn std::error::Error>>(())
+    /// ```
+    pub fn parts(&self) -> Parts<'a> {
+        self.records.parts()
+    }
+
     /// Its nodes in the order of their numbers, each with its number.
     ///
     /// ```
@@ -185,7 +209,7 @@ impl<'a> Table<'a> {
     /// # Ok::<(), ventolaire::Broken>(())
     /// ```
     pub fn nodes(&self) -> Nodes<'a> {
-        self.parts.nodes()
+        self.records.nodes()
     }
 
     /// The node of a number, if there is one.
@@ -215,7 +239,7 @@ impl<'a> Table<'a> {
     /// # Ok::<(), ventolaire::Broken>(())
     /// ```
     pub fn entries(&self) -> Entries<'a> {
-        self.parts.entries()
+        self.records.entries()
     }
 
     /// Its mounts in the order of their numbers, each with its number.
@@ -229,7 +253,7 @@ impl<'a> Table<'a> {
     /// # Ok::<(), ventolaire::Broken>(())
     /// ```
     pub fn mounts(&self) -> Mounts<'a> {
-        self.parts.mounts()
+        self.records.mounts()
     }
 
     /// The mount of a number, if there is one.

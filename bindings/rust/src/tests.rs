@@ -1,5 +1,6 @@
 //! Calls and their answers.
 
+mod builds;
 mod causes;
 mod descriptors;
 mod errors;

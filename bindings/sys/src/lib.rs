@@ -18,6 +18,9 @@
 /// The descriptors of a table.
 pub const VENTOLAIRE_DESCRIPTORS: usize = 64;
 
+/// The most bytes that an image has.
+pub const VENTOLAIRE_IMAGE_MAX: usize = 65_536;
+
 /// A table of descriptors: 64 numbers, of which 0 is a closed one.
 #[repr(C)]
 #[derive(Clone, Copy, Debug, PartialEq, Eq)]
@@ -47,6 +50,23 @@ pub type Open = unsafe extern "C" fn(
 /// pointer with its length.
 pub type Lookup =
     unsafe extern "C" fn(*const u8, usize, u64, *const u8, usize, *mut u64, usize) -> usize;
+
+/// The type of the function that builds: nodes, mounts, entries, text, buffer and output,
+/// each pointer with its length.
+pub type Build = unsafe extern "C" fn(
+    *const u8,
+    usize,
+    *const u8,
+    usize,
+    *const u8,
+    usize,
+    *const u8,
+    usize,
+    *mut u8,
+    usize,
+    *mut u64,
+    usize,
+) -> usize;
 
 /// The type of both functions that resolve: image, mount, node, mark, path,
 /// open_how and output, each pointer with its length.
@@ -197,6 +217,39 @@ extern "C" {
         image_len: usize,
         descriptors: *mut ventolaire_descriptors,
         number: u64,
+        out: *mut u64,
+        out_len: usize,
+    ) -> usize;
+
+    /// Writes the image of a tree's parts: error number (0: written), rule, record and bytes.
+    ///
+    /// ```
+    /// use std::ptr::null;
+    /// use ventolaire_sys::{ventolaire_build, VENTOLAIRE_IMAGE_MAX};
+    ///
+    /// let (nodes, mounts) = ([1, 0, 0, 0, 0, 0, 0, 0, 0, 0, 0, 0], [0; 8]);
+    /// let mut buffer = [0xff; VENTOLAIRE_IMAGE_MAX];
+    /// let mut out = [u64::MAX; 4];
+    /// // SAFETY: each pointer goes with its length, and no entries and no text are lent.
+    /// let written = unsafe {
+    ///     let (to, answer) = (buffer.as_mut_ptr(), out.as_mut_ptr());
+    ///     let (n, m, none) = (nodes.as_ptr(), mounts.as_ptr(), null());
+    ///     ventolaire_build(n, 12, m, 8, none, 0, none, 0, to, buffer.len(), answer, out.len())
+    /// };
+    /// assert_eq!((written, out), (4, [0, 0, 0, 40]));
+    /// assert!(buffer.starts_with(b"TOC1\x01\0\x01\0") && buffer[40] == 0xff);
+    /// ```
+    pub fn ventolaire_build(
+        nodes: *const u8,
+        nodes_len: usize,
+        mounts: *const u8,
+        mounts_len: usize,
+        entries: *const u8,
+        entries_len: usize,
+        text: *const u8,
+        text_len: usize,
+        buffer: *mut u8,
+        buffer_len: usize,
         out: *mut u64,
         out_len: usize,
     ) -> usize;

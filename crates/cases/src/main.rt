@@ -1,13 +1,16 @@
 // Runs the cases of its standard input, compares each answer with the expected one, and says of each which it was.
 //
-// The input is written by tests/cases/write: a u32 count, then a record of 84 bytes for each case, then the bytes that the records
+// The input is written by tests/cases/write: a u32 count, then a record of 100 bytes for each case, then the bytes that the records
 // lend. All numbers are little-endian. A record: u32 kind (1: table check, 2: call, 3: start of descriptors, 4: open, 5: duplicate,
-// 6: close, 7: set the mark, 8: lookup); u32 offset and u32 length of the image, the path (of a lookup the name that is looked up), the
-// open_how and the case's name; u32 mark, of an open whether it is asked; u64 mount, of a descriptor call the descriptor; u64 node, of a
-// lookup the directory; seven u32, the expected numbers: two for a check and a start, six for a call, seven for a descriptor call, four
-// for a lookup, then zeros. A start's descriptors are those of the records after it.
+// 6: close, 7: set the mark, 8: lookup, 9: build); u32 offset and u32 length of the image (of a build the node records), the path (of a
+// lookup the name that is looked up, of a build the mounts), the open_how (of a build the entries) and the case's name; u32 mark, of an
+// open whether it is asked; u64 mount, of a descriptor call the descriptor, of a build the buffer's length; u64 node, of a lookup the
+// directory; seven u32, the expected numbers: two for a check and a start, six for a call, seven for a descriptor call, four for a lookup
+// and a build, then zeros; u32 offset and u32 length of a build's text, and of the image that it is to write, empty where it is refused.
+// A start's descriptors are those of the records after it. A build whose buffer is not left as it should be answers 1 as the fifth number.
 use fields::u32_at;
 use fields::u64_at;
+use ventolaire::ventolaire_build;
 use ventolaire::ventolaire_check;
 use ventolaire::ventolaire_close;
 use ventolaire::ventolaire_dup;
@@ -36,7 +39,7 @@ fn part(s: &[u8], at: usize) -> &[u8]
 
 // The numbers of a reply: those of a start are two.
 fn reply(s: &[u8], at: usize, kind: usize, slots: &mut [u64; 64]) -> [u64; 7]
-    requires { ⌜ at + 84 ≤ length (now s) ⌝ }
+    requires { ⌜ at + 100 ≤ length (now s) ⌝ }
 {
     let mut out = [0u64; 7];
     let image = part(s, at + 4);
@@ -66,7 +69,7 @@ fn reply(s: &[u8], at: usize, kind: usize, slots: &mut [u64; 64]) -> [u64; 7]
 
 // The numbers of an answer: of a table check two, of a call six.
 fn answer(s: &[u8], at: usize, kind: usize) -> [u64; 7]
-    requires { ⌜ at + 84 ≤ length (now s) ⌝ }
+    requires { ⌜ at + 100 ≤ length (now s) ⌝ }
 {
     let mut out = [0u64; 7];
     let image = part(s, at + 4);
@@ -85,7 +88,7 @@ fn answer(s: &[u8], at: usize, kind: usize) -> [u64; 7]
 
 // The numbers of a lookup, four.
 fn looked_up(s: &[u8], at: usize) -> [u64; 7]
-    requires { ⌜ at + 84 ≤ length (now s) ⌝ }
+    requires { ⌜ at + 100 ≤ length (now s) ⌝ }
 {
     let mut out = [0u64; 7];
     let image = part(s, at + 4);
@@ -95,9 +98,62 @@ fn looked_up(s: &[u8], at: usize) -> [u64; 7]
     out
 }
 
+// What stands in a buffer before it is lent to a build: a byte that is written shows.
+const CANARY: u8 = 0xA5;
+
+// A buffer of canaries has the image at its front and is else as it was.
+fn holds(buffer: &[u8], image: &[u8]) -> bool {
+    let mut i = 0;
+    while i < buffer.len() {
+        let wanted = if i < image.len() { image[i] } else { CANARY };
+        if buffer[i] != wanted {
+            return false;
+        }
+        i += 1;
+    }
+    image.len() <= buffer.len()
+}
+
+// The numbers of a build into a buffer of canaries, four, then 1 where the buffer is not as it should be or is shorter than asked.
+fn built_in(s: &[u8], at: usize, buffer: &mut [u8], room: usize) -> [u64; 7]
+    requires { ⌜ at + 100 ≤ length (now s) ⌝ }
+{
+    let mut out = [0u64; 7];
+    if buffer.len() < room {
+        out[4] = 1;
+        return out;
+    }
+    let nodes = part(s, at + 4);
+    let mounts = part(s, at + 12);
+    let entries = part(s, at + 20);
+    let text = part(s, at + 84);
+    let image = part(s, at + 92);
+    ventolaire_build(nodes, mounts, entries, text, &mut buffer[..room], &mut out);
+    let written = if out[0] == 0 { image } else { &image[..0] };
+    if !holds(buffer, written) {
+        out[4] = 1;
+    }
+    out
+}
+
+// A buffer longer than any that the list asks for. The promise tells the length, which lending it as a slice asks for.
+fn canaries() -> [u8; 65600]
+    ensures { λ r. ⌜ 65600 ≡ length r ⌝ }
+{
+    [CANARY; 65600]
+}
+
+fn built(s: &[u8], at: usize) -> [u64; 7]
+    requires { ⌜ at + 100 ≤ length (now s) ⌝ }
+{
+    let room = u64_at(s, at + 40) as usize;
+    let mut buffer = canaries();
+    built_in(s, at, &mut buffer, room)
+}
+
 // A record of any kind.
 fn answered(s: &[u8], at: usize, slots: &mut [u64; 64]) -> [u64; 7]
-    requires { ⌜ at + 84 ≤ length (now s) ⌝ }
+    requires { ⌜ at + 100 ≤ length (now s) ⌝ }
 {
     let kind = u32_at(s, at);
     if kind < 3 {
@@ -106,11 +162,14 @@ fn answered(s: &[u8], at: usize, slots: &mut [u64; 64]) -> [u64; 7]
     if kind == 8 {
         return looked_up(s, at);
     }
+    if kind == 9 {
+        return built(s, at);
+    }
     reply(s, at, kind, slots)
 }
 
 fn expected(s: &[u8], at: usize) -> [u64; 7]
-    requires { ⌜ at + 84 ≤ length (now s) ⌝ }
+    requires { ⌜ at + 100 ≤ length (now s) ⌝ }
 {
     let mut out = [0u64; 7];
     let mut i = 0;
@@ -145,7 +204,7 @@ fn print_seven(numbers: [u64; 7]) {
 
 // Runs the case whose record begins at a place.
 fn run_case(s: &[u8], at: usize, slots: &mut [u64; 64]) -> bool
-    requires { ⌜ at + 84 ≤ length (now s) ⌝ }
+    requires { ⌜ at + 100 ≤ length (now s) ⌝ }
 {
     let name = part(s, at + 28);
     let want = expected(s, at);
@@ -175,8 +234,8 @@ fn run(s: &[u8], count: usize) -> usize
     let mut passed = 0;
     let mut i = 0;
     while i < count {
-        let at = 4 + 84 * i;
-        if s.len() < at + 84 {
+        let at = 4 + 100 * i;
+        if s.len() < at + 100 {
             return passed;
         }
         if run_case(s, at, &mut slots) {
@@ -206,10 +265,10 @@ fn run_all(s: &[u8]) {
 }
 
 // Room for the input. The promise tells main the length, which lending it as a slice asks for.
-fn room() -> [u8; 1048576]
-    ensures { λ r. ⌜ 1048576 ≡ length r ⌝ }
+fn room() -> [u8; 2097152]
+    ensures { λ r. ⌜ 2097152 ≡ length r ⌝ }
 {
-    [0; 1048576]
+    [0; 2097152]
 }
 
 fn main() {

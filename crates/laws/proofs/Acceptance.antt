@@ -11,23 +11,23 @@ use lib.Dec.{eqb, ltb, leb}
 use lib.ListN.{length, length-take}
 use borrow.Author.Tests.{ltb-true, leb-true, eqb-true, eq-eqb, not-true}
 use Rattle.model.specs.Bytes.{contains, part, firstFailing, orElse}
-use Rattle.model.specs.Tree.{Tree, sizesOf, textPart, treeOf, isDirectory, lookup, under, mountOn}
+use Rattle.model.specs.Tree.{Sizes, Tree, sizesOf, textPart, treeOf, isDirectory, lookup, under, mountOn}
 use Rattle.model.specs.TableCheck.{unless, rule1, rule2, rule3, countsFit, wholeLength, directoryCount, sumBelow, countsBefore, directoryHolds, symlinkHolds, nodeHolds, rule4, nameHolds}
 use Rattle.model.specs.TableCheck.{ascends, standsInParent, entryHolds, rule5, pointHolds, sharesPoint, hangs, mountHolds, rule6, targetHolds, magicTargetHolds, rule7, breaks, recordsCheck}
 use Rattle.model.specs.TableCheck.{tableCheck}
 use Rattle.model.specs.declared.Place.{Place}
 use Rattle.model.specs.declared.Verdict.{Verdict}
 use Rattle.model.specs.declared.Verdict.the-variants.{Accepted}
-use Rattle.laws.specs.Acceptance.{Sized, DirectoriesHold, NodesHold, MountsHold, Sound}
+use Rattle.laws.specs.Acceptance.{CountsHold, Sized, DirectoriesHold, NodesHold, MountsHold, Sound, TextsInside}
 use Rattle.laws.proofs.ByteLaws.{firstFailing-none, find-some}
 use Rattle.laws.proofs.Cases.{some-not-none, both}
 use Rattle.laws.proofs.PartLaws.{part-whole, text-length}
 
-unbroken : (rule : ℕ) (o : Option ℕ) (later : Verdict) → breaks rule o later ≡ Accepted → (o ≡ none) × (later ≡ Accepted)
+pub unbroken : (rule : ℕ) (o : Option ℕ) (later : Verdict) → breaks rule o later ≡ Accepted → (o ≡ none) × (later ≡ Accepted)
 unbroken rule none later e = (refl, e)
 unbroken rule (some r) later e = let z : _≡_ {A = ℕ} 0 1 = cc in absurd (omega arith)
 
-passed : (b : Bool) (r : ℕ) → unless b r ≡ none → b ≡ true
+pub passed : (b : Bool) (r : ℕ) → unless b r ≡ none → b ≡ true
 passed true r e = refl
 passed false r e = absurd (some-not-none r e)
 
@@ -42,7 +42,7 @@ pub record Unbroken (t : Tree) : Type 0 where
   pub six : rule6 t ≡ none
   pub seven : rule7 t ≡ none
 
-unbroken-records : (t : Tree) → recordsCheck t ≡ Accepted → Unbroken t
+pub unbroken-records : (t : Tree) → recordsCheck t ≡ Accepted → Unbroken t
 unfolding recordsCheck
 unbroken-records t e =
     let r4 = unbroken 4 (rule4 t) (breaks 5 (rule5 t) (breaks 6 (rule6 t) (breaks 7 (rule7 t) Accepted))) e in
@@ -51,13 +51,10 @@ unbroken-records t e =
     let r7 = unbroken 7 (rule7 t) Accepted (r6 .1) in
     record { four = r4 .0; five = r5 .0; six = r6 .0; seven = r7 .0 }
 
-pub rules-sized : (s : List ℕ) → rule1 s ≡ none → rule3 s ≡ none → Sized s
-unfolding rule1 rule3 countsFit wholeLength treeOf
-rules-sized s e1 e3 =
-    let t = treeOf s in
-    let l = both (leb 20 (length s)) _ (passed _ 0 e1) in
-    let w = both _ _ (passed _ 0 e3) in
-    let c = both _ _ (both _ _ (w .0) .0) in
+pub counts-hold : (z : Sizes) → countsFit z ≡ true → CountsHold z
+unfolding countsFit
+counts-hold z e =
+    let c = both _ _ e in
     let c4 = both _ _ (c .0) in
     let c3 = both _ _ (c4 .0) in
     let c2 = both _ _ (c3 .0) in
@@ -67,6 +64,20 @@ rules-sized s e1 e3 =
       some-mount = leb-true _ _ (c3 .1);
       few-mounts = leb-true _ _ (c4 .1);
       few-entries = leb-true _ _ (c .1);
+    }
+
+pub rules-sized : (s : List ℕ) → rule1 s ≡ none → rule3 s ≡ none → Sized s
+unfolding rule1 rule3 wholeLength treeOf
+rules-sized s e1 e3 =
+    let l = both (leb 20 (length s)) _ (passed _ 0 e1) in
+    let w = both _ _ (passed _ 0 e3) in
+    let c = counts-hold (sizesOf s) (both _ _ (w .0) .0) in
+    record {
+      some-node = c .some-node;
+      few-nodes = c .few-nodes;
+      some-mount = c .some-mount;
+      few-mounts = c .few-mounts;
+      few-entries = c .few-entries;
       small = leb-true _ _ (l .1);
       whole = eqb-true _ _ (w .1);
     }
@@ -294,3 +305,11 @@ pub name-whole : {s : List ℕ} (e : ℕ) → Sized s → treeOf s .nameOffset e
     → length (treeOf s .name e) ≡ treeOf s .nameLength e
 unfolding treeOf
 name-whole {s} e z h = part-whole (textPart (sizesOf s) s) _ _ (omega (arith, text-length s z))
+
+-- rules 4 and 5 test that texts lie inside
+pub texts-inside : (t : Tree) → rule4 t ≡ none → rule5 t ≡ none → TextsInside t
+unfolding rule5 entryHolds
+texts-inside t four five = record {
+  name-inside = λ e h. name-holds-facts t e (both _ _ (both _ _ (both _ _ (firstFailing-none _ (t .entries) five e h) .0) .0) .0) .0;
+  body-inside = λ n h k. symlink-facts (rule4-nodes t four) n h k .0;
+}

@@ -11,6 +11,7 @@ pub mod UnderLaws
 pub mod EntryLaws
 pub mod HalvingLaws
 pub mod MountLaws
+pub mod OverLaws
 pub mod Inside
 pub mod Refusals
 pub mod DescriptorLaws

@@ -4,8 +4,16 @@ use mathlib.Core.Bool.{true}
 use mathlib.Core.List.{List}
 use mathlib.Core.Path.{_≡_}
 use lib.ListN.{length}
-use Rattle.model.specs.Tree.{Tree, treeOf, isDirectory}
+use Rattle.model.specs.Tree.{Sizes, Tree, treeOf, isDirectory}
 use Rattle.model.specs.TableCheck.{countsBefore, directoryHolds, nodeHolds, entryHolds, mountHolds, magicTargetHolds}
+
+-- what rule 3 says of counts
+pub record CountsHold (z : Sizes) : Type 0 where
+  pub some-node : 1 ≤ z .nodes
+  pub few-nodes : z .nodes ≤ 4096
+  pub some-mount : 1 ≤ z .mounts
+  pub few-mounts : z .mounts ≤ 256
+  pub few-entries : z .entries ≤ 4096
 
 -- what rules 1 and 3 say of an image's sizes
 pub record Sized (s : List ℕ) : Type 0 where
@@ -39,3 +47,8 @@ pub record Sound (t : Tree) : Type 0 where
   pub mounts-hold : MountsHold t
   pub target-holds : (n : ℕ) → n < t .nodes → magicTargetHolds t n ≡ true
   pub body-length : (n : ℕ) → length (t .body n) ≤ t .count n
+
+-- what rules 4 and 5 say of the text: every name and every body lies inside of it
+pub record TextsInside (t : Tree) : Type 0 where
+  pub name-inside : (e : ℕ) → e < t .entries → t .nameOffset e + t .nameLength e ≤ t .textLength
+  pub body-inside : (n : ℕ) → n < t .nodes → t .kind n ≡ 3 → t .first n + t .count n ≤ t .textLength

@@ -6,13 +6,13 @@ use mathlib.Core.Option.{Option, some}
 use Rattle.model.specs.declared.Progress.{Progress}
 use Rattle.model.specs.declared.Refusal.{Refusal}
 use Rattle.model.specs.declared.Errno.{Errno}
-use Rattle.model.specs.declared.Errno.the-variants.{Euclean, E2big, Einval, Enametoolong, Enoent, Ebadf, Enotdir, Eloop, Exdev, Emfile, Enotty}
+use Rattle.model.specs.declared.Errno.the-variants.{Euclean, E2big, Einval, Enametoolong, Enoent, Ebadf, Enotdir, Eloop, Exdev, Emfile, Enotty, Erange}
 use Rattle.model.specs.declared.Answer.{Answer}
 use Rattle.model.specs.declared.Answer.the-variants.{Found, Refused}
 use Rattle.model.specs.declared.Verdict.{Verdict}
 use Rattle.model.specs.declared.Verdict.the-variants.{Accepted, Broken}
 
--- the table of error numbers (RULES 5.7), and the descriptor table's two (RULES 17.8)
+-- the table of error numbers (RULES 5.7), the descriptor table's two (RULES 17.8) and the builder's (RULES 19.8)
 abbrev pub errnoNumber : Errno → ℕ
 errnoNumber Euclean = 117
 errnoNumber E2big = 7
@@ -25,6 +25,7 @@ errnoNumber Eloop = 40
 errnoNumber Exdev = 18
 errnoNumber Emfile = 24
 errnoNumber Enotty = 25
+errnoNumber Erange = 34
 
 -- An answer's numbers: error number (0: found), detail, mount, node, components, links. A refusal has no place, and Found no
 -- detail: those numbers are 0 and 255 (RULES 5.6).

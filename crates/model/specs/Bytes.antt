@@ -4,10 +4,10 @@ use Prim.Native.Nat.{ℕ, zero, suc, _+_, _*_, _/_, _%_}
 use Prim.Native.Char.{code}
 use Prim.Native.String.{String, [] as empty, _∷_ as _then_}
 use mathlib.Core.Bool.{Bool, true, false, cond, not, _&&_, _||_}
-use mathlib.Core.List.{List, [], _∷_}
+use mathlib.Core.List.{List, [], _∷_, _++_}
 use mathlib.Core.Option.{Option, none, some}
 use lib.Dec.{eqb, ltb}
-use lib.ListN.{getD, take, drop}
+use lib.ListN.{length, getD, take, drop}
 
 -- "Little-endian (house)" (RULES 2.1): the number that the width bytes at a position stand for, for every width
 unfoldable pub field : ℕ → List ℕ → ℕ → ℕ
@@ -18,6 +18,20 @@ field (suc width) s at = getD s at 0 + 256 * field width s (at + 1)
 unfoldable pub fieldBytes : ℕ → ℕ → List ℕ
 fieldBytes zero x = []
 fieldBytes (suc width) x = x % 256 ∷ fieldBytes width (x / 256)
+
+-- a record's bytes: its fields, each with its width, one after the other
+unfoldable pub fieldsBytes : List (ℕ × ℕ) → List ℕ
+fieldsBytes [] = []
+fieldsBytes (f ∷ fs) = fieldBytes (f .0) (f .1) ++ fieldsBytes fs
+
+-- what a function gives for the numbers below n, one after the other
+unfoldable pub joinBelow : (ℕ → List ℕ) → ℕ → List ℕ
+joinBelow f zero = []
+joinBelow f (suc n) = joinBelow f n ++ f n
+
+-- bytes laid over a string from a position on
+unfoldable pub over : List ℕ → ℕ → List ℕ → List ℕ
+over s at bytes = take at s ++ bytes ++ drop (at + length bytes) s
 
 -- the count bytes from a position on
 unfoldable pub part : List ℕ → ℕ → ℕ → List ℕ

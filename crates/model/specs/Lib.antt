@@ -14,3 +14,4 @@ pub mod Resolve
 pub mod Descriptors
 pub mod Halving
 pub mod Lookup
+pub mod Build

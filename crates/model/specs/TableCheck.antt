@@ -17,8 +17,11 @@ unless true r = none
 unless false r = some r
 
 -- "1. Image length 20 to 65,536." (RULES 4.1)
+abbrev pub lengthFits : ℕ → Bool
+lengthFits n = leb 20 n && leb n 65536
+
 unfoldable pub rule1 : List ℕ → Option ℕ
-rule1 s = unless (leb 20 (length s) && leb (length s) 65536) 0
+rule1 s = unless (lengthFits (length s)) 0
 
 -- "2. Signature and zero field." (RULES 4.2)
 unfoldable pub rule2 : List ℕ → Option ℕ

@@ -59,6 +59,7 @@ pub enum Errno {
     Exdev,
     Emfile,
     Enotty,
+    Erange,
 }
 
 // What a refusal carries (RULES 5.4): detail is an unknown bit's number, else NO_DETAIL.
@@ -111,4 +112,12 @@ pub struct Miss {
 pub enum Lookup {
     Named(Entry),
     Unnamed(Miss),
+}
+
+// What writing an image comes to (RULES 19.10): written, with its length; the lowest rule that it would break, with the lowest record that breaks
+// it; or a buffer too short for it, with the length that it needs.
+pub enum Built {
+    Written(usize),
+    Broken { rule: usize, record: usize },
+    Short(usize),
 }

@@ -16,6 +16,10 @@ use Rattle.model.specs.Lookup.{lookupNumbers}
 use Rattle.model.specs.declared.Lookup.{Lookup}
 use Rattle.model.specs.declared.Lookup.the-variants.{Unnamed}
 use Rattle.model.specs.declared.Miss.{Miss}
+use Rattle.model.specs.Build.{builtNumbers}
+use Rattle.model.specs.declared.Built.{Built}
+use Rattle.model.specs.declared.Built.the-variants.{Broken, Short}
+use Rattle.model.specs.declared.Errno.the-variants.{Euclean, Erange}
 
 -- stores of numbers, one after the other from an index on
 abbrev pub stores : List ℕ → ℕ → List ℕ → List ℕ
@@ -44,6 +48,17 @@ module _ (out : List ℕ) {after : List ℕ} where
       → after ≡ n ∷ r .detail ∷ 0 ∷ 0 ∷ r .progress .components ∷ r .progress .links ∷ drop 6 out → after ≡ answerNumbers a ++ drop 6 out
   refusal-told {r = r} is number e =
       answer-told is (e ∙ ap (λ x. x ∷ r .detail ∷ 0 ∷ 0 ∷ r .progress .components ∷ r .progress .links ∷ drop 6 out) number)
+
+  pub built-told : {b told : Built} → b ≡ told → after ≡ builtNumbers told ++ drop 4 out → after ≡ builtNumbers b ++ drop 4 out
+  built-told is e = e ∙ ap (λ x. builtNumbers x ++ drop 4 out) (sym is)
+
+  pub broken-told : {b : Built} {rule r n : ℕ} → b ≡ Broken rule r → n ≡ errnoNumber Euclean → after ≡ n ∷ rule ∷ r ∷ 0 ∷ drop 4 out
+      → after ≡ builtNumbers b ++ drop 4 out
+  broken-told {rule = rule} {r} is number e = built-told is (e ∙ ap (λ x. x ∷ rule ∷ r ∷ 0 ∷ drop 4 out) number)
+
+  pub short-told : {b : Built} {bytes n : ℕ} → b ≡ Short bytes → n ≡ errnoNumber Erange → after ≡ n ∷ 0 ∷ 0 ∷ bytes ∷ drop 4 out
+      → after ≡ builtNumbers b ++ drop 4 out
+  short-told {bytes = bytes} is number e = built-told is (e ∙ ap (λ x. x ∷ 0 ∷ 0 ∷ bytes ∷ drop 4 out) number)
 
   pub lookup-told : {l told : Lookup} → l ≡ told → after ≡ lookupNumbers told ++ drop 4 out → after ≡ lookupNumbers l ++ drop 4 out
   lookup-told is e = e ∙ ap (λ x. lookupNumbers x ++ drop 4 out) (sym is)

@@ -1,5 +1,6 @@
 // What a public call tells, as numbers at the front of a lent array: a verdict, an answer, a lookup, a reply, and in them an errno's number.
 use model::Answer;
+use model::Built;
 use model::Errno;
 use model::Lookup;
 use model::NO_DETAIL;
@@ -11,6 +12,7 @@ ghost use Prim.Native.Nat.{_≤_};
 ghost use lib.ListN.{length, drop};
 ghost use Rattle.model.specs.Answers.{errnoNumber, answerNumbers, verdictNumbers};
 ghost use Rattle.model.specs.Lookup.{lookupNumbers};
+ghost use Rattle.model.specs.Build.{builtNumbers};
 ghost use Rattle.model.specs.Descriptors.{replyNumbers};
 
 pub fn errno_number(e: Errno) -> u64
@@ -28,6 +30,7 @@ pub fn errno_number(e: Errno) -> u64
         Errno::Exdev => 18,
         Errno::Emfile => 24,
         Errno::Enotty => 25,
+        Errno::Erange => 34,
     }
 }
 
@@ -81,6 +84,20 @@ pub fn put_verdict(out: &mut [u64], v: Verdict)
     match v {
         Verdict::Accepted => put2(out, 0, 0),
         Verdict::Broken { rule, record } => put2(out, rule as u64, record as u64),
+    }
+}
+
+pub fn put_built(out: &mut [u64], b: Built)
+    requires { ⌜ 4 ≤ length (now out) ⌝ }
+    ensures { λ r. ⌜ now (out .exit) ≡ builtNumbers b ++ drop 4 (now (out .entry)) ⌝ }
+{
+    match b {
+        Built::Written(bytes) => put4(out, 0, 0, 0, bytes as u64),
+        Built::Broken { rule, record } => {
+            let errno = errno_number(Errno::Euclean);
+            put4(out, errno, rule as u64, record as u64, 0);
+        }
+        Built::Short(bytes) => put4(out, errno_number(Errno::Erange), 0, 0, bytes as u64),
     }
 }
 

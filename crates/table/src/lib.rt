@@ -26,7 +26,7 @@ ghost use Rattle.parts.specs.Parts.{partsTree, NodeRecords, MountRecords, Entry
 ghost use Rattle.image.specs.Counts.{countsOf};
 
 // The most bytes that an image has.
-const MOST_IMAGE: usize = 65536;
+pub const MOST_IMAGE: usize = 65536;
 
 // The most nodes, mounts and entries that a table has.
 const MOST_NODES: usize = 4096;
@@ -46,11 +46,9 @@ fn is_signed(image: &[u8]) -> bool
     u16_at(image, 10) == 0
 }
 
-// Rule 3.
-fn sizes_fit(image: &[u8], c: Counts, text: usize) -> bool
-    requires { ⌜ (20 ≤ length (now image)) × (c ≡ countsOf (now image)) × (text ≡ sizesOf (now image) .text) × (text < 2 ^ 32) ⌝ }
-    ensures { λ r. ⌜ r ≡ countsFit (sizesOf (now (image .entry))) && eqb (field 4 (now (image .entry)) 16) (wholeLength (sizesOf (now (image .entry))))
-        && eqb (length (now (image .entry))) (wholeLength (sizesOf (now (image .entry)))) ⌝ }
+// Rule 3's counts.
+pub fn counts_fit(c: Counts) -> bool
+    ensures { λ r. ⌜ ((text : ℕ) → r ≡ countsFit (record { nodes = c .nodes; mounts = c .mounts; entries = c .entries; text = text })) ⌝ }
 {
     if c.nodes == 0 {
         return false;
@@ -64,7 +62,16 @@ fn sizes_fit(image: &[u8], c: Counts, text: usize) -> bool
     if MOST_MOUNTS < c.mounts {
         return false;
     }
-    if MOST_ENTRIES < c.entries {
+    c.entries <= MOST_ENTRIES
+}
+
+// Rule 3.
+fn sizes_fit(image: &[u8], c: Counts, text: usize) -> bool
+    requires { ⌜ (20 ≤ length (now image)) × (c ≡ countsOf (now image)) × (text ≡ sizesOf (now image) .text) × (text < 2 ^ 32) ⌝ }
+    ensures { λ r. ⌜ r ≡ countsFit (sizesOf (now (image .entry))) && eqb (field 4 (now (image .entry)) 16) (wholeLength (sizesOf (now (image .entry))))
+        && eqb (length (now (image .entry))) (wholeLength (sizesOf (now (image .entry)))) ⌝ }
+{
+    if !counts_fit(c) {
         return false;
     }
     let whole = 20 + 12 * c.nodes + 8 * c.mounts + 8 * c.entries + text;

@@ -34,6 +34,12 @@ module _ (names : Bool) (records text : List ℕ) where
         let g : count ≡ end - start = omega arith in
         rw (le-leb (at + count) (length text) (omega arith)) (ap₂ (λ (i n : ℕ). holdsBarred names (part text i n)) (sym e) g)
 
+    -- and by the kind that a test has told
+    pub told-inside : {kind : Bool} → names ≡ kind → (start end : ℕ) → start ≡ partStart names records k
+        → end ≡ partStart names records k + partLength names records k → end ≤ length text
+        → recordBarred names records text k ≡ holdsBarred kind (part text start (end - start))
+    told-inside told start end e f h = inside start end e f h ∙ ap (λ (b : Bool). holdsBarred b (part text start (end - start))) told
+
   -- the search for the first stands at a record
   abbrev pub NoneBefore : ℕ → ℕ → Type 0
   NoneBefore count k = FirstFrom (λ i. recordBarred names records text i) count (firstBarred names records text count) k

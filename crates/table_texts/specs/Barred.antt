@@ -53,4 +53,5 @@ longerThan names records count limit = ltb limit (sumBelow (λ k. partLength nam
 -- the text is marked: it is short enough, and the records are many beside it or share it
 unfoldable pub isMarked : Bool → List ℕ → List ℕ → ℕ → Bool
 isMarked names records text count =
-    leb (length text) 65535 && (ltb (256 + length text / 64) count || longerThan names records count (length text + 8192))
+    let many = cond names (256 + length text / 64) (256 + length text / 8) in
+    leb (length text) 65535 && (ltb many count || longerThan names records count (length text + 8192))

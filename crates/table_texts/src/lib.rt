@@ -6,6 +6,7 @@ use parts::records::name_offset;
 use parts::records::node_count;
 use parts::records::node_first;
 use parts::records::node_kind;
+use text_marks::bytes::body_holds;
 use text_marks::bytes::holds_barred;
 use text_marks::fill;
 use text_marks::next_barred;
@@ -53,7 +54,11 @@ fn read_barred(records: &[u8], text: &[u8], names: bool, k: usize) -> bool
     if text.len() < end {
         return false;
     }
-    holds_barred(&text[at..end], names)
+    let s = &text[at..end];
+    if names {
+        return holds_barred(s, true);
+    }
+    body_holds(s)
 }
 
 fn first_read(records: &[u8], text: &[u8], count: usize, names: bool) -> usize
@@ -158,7 +163,12 @@ fn is_marked(records: &[u8], text: &[u8], count: usize, names: bool) -> bool
     if MOST_MARKED < text.len() {
         return false;
     }
-    if 256 + text.len() / 64 < count {
+    let many = if names {
+        256 + text.len() / 64
+    } else {
+        256 + text.len() / 8
+    };
+    if many < count {
         return true;
     }
     longer(records, count, names, text.len() + 8192)

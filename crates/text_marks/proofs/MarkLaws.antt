@@ -60,11 +60,15 @@ module _ (names : Bool) (s : List ℕ) (i : ℕ) (seen : holdsBarred names s ≡
   unfolding holdsBarred
   barred-none h = sym (seen ∙ ap₂ (λ (a b : Bool). a || (names && b)) (contains-end 0 s i h) (contains-end 47 s i h) ∙ neither names)
 
+-- a body holds one where it holds a zero byte
+pub of-body : (s : List ℕ) {held : Bool} → held ≡ contains 0 s → held ≡ holdsBarred false s
+unfolding holdsBarred
+of-body s e = e ∙ sym (or-false _)
+
 -- whether it holds one, by the kind of record
 module _ (names : Bool) (s : List ℕ) {held : Bool} where
   pub of-bodies : not names ≡ true → held ≡ contains 0 s → held ≡ holdsBarred names s
-  unfolding holdsBarred
-  of-bodies n e = e ∙ sym (rw (not-true names n) (or-false _))
+  of-bodies n e = rw (not-true names n) (of-body s e)
 
   pub of-names : not names ≡ false → held ≡ holdsBarred true s → held ≡ holdsBarred names s
   of-names n e = rw (not-false names n) e
@@ -110,18 +114,19 @@ fewer-clean names s m n l e = take-clean names s m (λ i h u. by i h u (barred n
     by i h u false f = refl
     by i h u true f = absurd (true≢false (sym (take-hit names s n i (omega arith) u f) ∙ e))
 
--- two parts that are together a whole string
-module _ (names : Bool) (s : List ℕ) (n at m : ℕ) (meet : at ≤ n) (first : n ≤ length s) (last : at + m ≡ length s) where
-  pub parts-hit : holdsBarred names (part s 0 n) ≡ true → true ≡ holdsBarred names s
+-- the first bytes of a string and its last, as many of each: together they are the whole string
+module _ (names : Bool) (s : List ℕ) (width : ℕ) (least : width ≤ length s) (most : length s ≤ 2 * width) where
+  pub ends-hit : holdsBarred names (part s 0 width) ≡ true → true ≡ holdsBarred names s
   unfolding part
-  parts-hit e = sym (split names s n first ∙ ap (λ (b : Bool). b || holdsBarred names (drop n s)) e)
+  ends-hit e = sym (split names s width least ∙ ap (λ (b : Bool). b || holdsBarred names (drop width s)) e)
 
-  pub parts-miss : holdsBarred names (part s 0 n) ≡ false → holdsBarred names (part s at m) ≡ holdsBarred names s
+  pub ends-miss : holdsBarred names (part s 0 width) ≡ false → holdsBarred names (part s (length s - width) width) ≡ holdsBarred names s
   unfolding part
-  parts-miss e =
-      let all : take m (drop at s) ≡ drop at s = take-all m (drop at s) (simp length-drop (omega arith)) in
+  ends-miss e =
+      let at = length s - width in
+      let all : take width (drop at s) ≡ drop at s = take-all width (drop at s) (simp length-drop (omega arith)) in
       ap (holdsBarred names) all
-      ∙ sym (split names s at (omega arith) ∙ ap (λ (b : Bool). b || holdsBarred names (drop at s)) (fewer-clean names s at n meet e))
+      ∙ sym (split names s at (omega arith) ∙ ap (λ (b : Bool). b || holdsBarred names (drop at s)) (fewer-clean names s at width (omega arith) e))
 
 module _ (names : Bool) (text : List ℕ) where
   abbrev at-barred : ℕ → Bool

@@ -1,8 +1,8 @@
 // Whether a string that is read holds a barred byte.
 use strings::holds_byte;
-ghost use mathlib.Core.Bool.{true};
+ghost use mathlib.Core.Bool.{true, false};
 ghost use mathlib.Core.Path.{_≡_};
-ghost use Prim.Native.Nat.{_+_, _≤_};
+ghost use Prim.Native.Nat.{_+_, _*_, _≤_};
 ghost use lib.ListN.{length};
 ghost use Rattle.model.specs.Bytes.{part, contains};
 ghost use Rattle.text_marks.specs.Barred.{holdsBarred, barred};
@@ -92,6 +92,33 @@ fn long_holds(s: &[u8]) -> bool
         return true;
     }
     slash
+}
+
+// Of a body of so many bytes to twice as many: its first, and its last, which may overlap them.
+fn ends_hold(s: &[u8], width: usize) -> bool
+    requires { ⌜ (width ≤ length (now s)) × (length (now s) ≤ 2 * width) ⌝ }
+    ensures { λ r. ⌜ r ≡ holdsBarred false (now (s .entry)) ⌝ }
+{
+    if block_holds(s, 0, 0, width) {
+        return true;
+    }
+    block_holds(s, 0, s.len() - width, width)
+}
+
+// Two blocks of a length that is written here cost less than vector code set up for the body's own.
+pub fn body_holds(s: &[u8]) -> bool
+    ensures { λ r. ⌜ r ≡ holdsBarred false (now (s .entry)) ⌝ }
+{
+    if s.len() < 8 {
+        return holds_byte(s, 0);
+    }
+    if s.len() < 16 {
+        return ends_hold(s, 8);
+    }
+    if s.len() <= 32 {
+        return ends_hold(s, 16);
+    }
+    holds_byte(s, 0)
 }
 
 // Setting vector code up for a short string costs more than it saves.

@@ -17,9 +17,12 @@ use Rattle.model.specs.declared.Reply.the-variants.{Opened, Duplicated, Done, R
 use Rattle.model.specs.Lookup.{lookupNumbers}
 use Rattle.model.specs.declared.Lookup.{Lookup}
 use Rattle.model.specs.declared.Lookup.the-variants.{Named, Unnamed}
+use Rattle.model.specs.Build.{Parts, built, bufferAfter, builtNumbers}
+use Rattle.model.specs.declared.Built.{Built}
+use Rattle.model.specs.declared.Built.the-variants.{Written, Broken as Built-broken, Short}
 use Rattle.slots.specs.Slots.{slotsBy}
 use Rattle.descriptors.specs.Replies.{Serves}
-use Rattle.ventolaire.specs.Written.{errnoNumbers, errnosFor, Writes, WritesStart, WritesReply}
+use Rattle.ventolaire.specs.Written.{errnoNumbers, errnosFor, Writes, WritesBuilt, WritesStart, WritesReply}
 
 -- an answer has six numbers, a verdict two
 answer-six : (a : Answer) → length (answerNumbers a) ≡ 6
@@ -69,6 +72,30 @@ lookup-writes {l} {r} {before} {after} is h e =
 pub lookup-short : (l : Lookup) (before : List ℕ) → length before < 4 → Writes (lookupNumbers l) before before 0
 lookup-short l before = writes-none (lookupNumbers l) before 4 (lookup-four l)
 
+-- what building comes to has four
+built-four : (b : Built) → length (builtNumbers b) ≡ 4
+built-four (Written bytes) = refl
+built-four (Built-broken rule r) = refl
+built-four (Short bytes) = refl
+
+module _ (p : Parts) (buffer out : List ℕ) where
+  pub built-writes : {buffer′ out′ : List ℕ} {b : Built} → (b ≡ built p (length buffer)) × (buffer′ ≡ bufferAfter p buffer)
+      → 4 ≤ length out → out′ ≡ builtNumbers b ++ drop 4 out → WritesBuilt p buffer buffer′ out out′ 4
+  built-writes {out′ = out′} s h e = record {
+    numbers =
+        writes-all (builtNumbers (built p (length buffer))) 4 (built-four (built p (length buffer))) out out′ h
+        (e ∙ ap (λ (y : Built). builtNumbers y ++ drop 4 out) (s .0));
+    buffer-is = λ _. s .1;
+    short = λ l. absurd (omega arith);
+  }
+
+  pub built-short : length out ≤ 3 → WritesBuilt p buffer buffer out out 0
+  built-short h = record {
+    numbers = writes-none (builtNumbers (built p (length buffer))) out 4 (built-four (built p (length buffer))) (omega arith);
+    buffer-is = λ l. absurd (omega arith);
+    short = λ _. refl;
+  }
+
 -- a descriptor call's reply has seven
 reply-seven : (r : Reply) → length (replyNumbers r) ≡ 7
 reply-seven (Opened o) = refl
@@ -107,19 +134,22 @@ start-short image slots out h = record { numbers = verdict-short (tableCheck ima
 pub errnos-few : (room : ℕ) → room < 11 → errnosFor room ≡ take 9 errnoNumbers
 errnos-few room h = rw (lt-ltb room 11 h)
 
-pub errnos-all : (room : ℕ) → 11 ≤ room → errnosFor room ≡ errnoNumbers
-errnos-all room h = rw (le-ltb room 11 h)
+pub errnos-most : (room : ℕ) → 11 ≤ room → room < 12 → errnosFor room ≡ take 11 errnoNumbers
+errnos-most room h l = rw (le-ltb room 11 h, lt-ltb room 12 l)
+
+pub errnos-all : (room : ℕ) → 12 ≤ room → errnosFor room ≡ errnoNumbers
+errnos-all room h =
+    let more : 11 ≤ room = omega arith in
+    rw (le-ltb room 11 more, le-ltb room 12 h)
 
 module _ (out : List ℕ) where
   pub errnos-none : length out < 9 → Writes (errnosFor (length out)) out out 0
   errnos-none h = writes-none (errnosFor (length out)) out 9 (ap length (errnos-few (length out) (omega arith))) h
 
-  pub errnos-nine : {after : List ℕ} → 9 ≤ length out → length out < 11 → after ≡ take 9 errnoNumbers ++ drop 9 out → Writes (errnosFor (length out)) out after 9
-  errnos-nine {after} h few e =
-      let is = errnos-few (length out) few in
-      writes-all (errnosFor (length out)) 9 (ap length is) out after h (e ∙ ap (λ (ns : List ℕ). ns ++ drop 9 out) (sym is))
-
-  pub errnos-eleven : {after : List ℕ} → 11 ≤ length out → after ≡ errnoNumbers ++ drop 11 out → Writes (errnosFor (length out)) out after 11
-  errnos-eleven {after} h e =
-      let is = errnos-all (length out) h in
-      writes-all (errnosFor (length out)) 11 (ap length is) out after h (e ∙ ap (λ (ns : List ℕ). ns ++ drop 11 out) (sym is))
+  module _ (numbers : List ℕ) (is : errnosFor (length out) ≡ numbers) where
+    -- the ones that it gets stand at its front
+    pub errnos-writes : {after : List ℕ} → length numbers ≤ length out → after ≡ numbers ++ drop (length numbers) out
+        → Writes (errnosFor (length out)) out after (length numbers)
+    errnos-writes {after} h e =
+        writes-all (errnosFor (length out)) (length numbers) (ap length is) out after h
+        (e ∙ ap (λ (ns : List ℕ). ns ++ drop (length numbers) out) (sym is))

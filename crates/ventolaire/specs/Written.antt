@@ -9,12 +9,13 @@ use Rattle.model.specs.Answers.{errnoNumber, answerNumbers, verdictNumbers}
 use Rattle.model.specs.TableCheck.{tableCheck}
 use Rattle.model.specs.Resolve.{Call, callOf, resolve}
 use Rattle.model.specs.Lookup.{lookupName, lookupNumbers}
+use Rattle.model.specs.Build.{Parts, built, bufferAfter, builtNumbers}
 use Rattle.model.specs.Descriptors.{start, Served, replyNumbers}
 use Rattle.resolver.specs.Answering.{Kept}
 use Rattle.slots.specs.Slots.{slotsBy}
 use Rattle.model.specs.declared.Refusal.{Refusal}
 use Rattle.model.specs.declared.Reply.the-variants.{Refused}
-use Rattle.model.specs.declared.Errno.the-variants.{Euclean, E2big, Einval, Enametoolong, Enoent, Ebadf, Enotdir, Eloop, Exdev, Emfile, Enotty}
+use Rattle.model.specs.declared.Errno.the-variants.{Euclean, E2big, Einval, Enametoolong, Enoent, Ebadf, Enotdir, Eloop, Exdev, Emfile, Enotty, Erange}
 
 -- a call by the numbers of its handle
 abbrev pub callBy : ℕ → ℕ → Bool → List ℕ → List ℕ → Call
@@ -24,11 +25,11 @@ callBy m n marked path how = callOf (record { mount = m; node = n; mark = marked
 abbrev pub errnoNumbers : List ℕ
 errnoNumbers =
     errnoNumber Euclean ∷ errnoNumber E2big ∷ errnoNumber Einval ∷ errnoNumber Enametoolong ∷ errnoNumber Enoent ∷ errnoNumber Ebadf
-    ∷ errnoNumber Enotdir ∷ errnoNumber Eloop ∷ errnoNumber Exdev ∷ errnoNumber Emfile ∷ errnoNumber Enotty ∷ []
+    ∷ errnoNumber Enotdir ∷ errnoNumber Eloop ∷ errnoNumber Exdev ∷ errnoNumber Emfile ∷ errnoNumber Enotty ∷ errnoNumber Erange ∷ []
 
--- those that an array of a given length gets: all, or the first nine where it has no room for more
+-- those that an array of a given length gets: all twelve, or the first eleven, or the first nine where it has no room for more
 abbrev pub errnosFor : ℕ → List ℕ
-errnosFor room = cond (ltb room 11) (take 9 errnoNumbers) errnoNumbers
+errnosFor room = cond (ltb room 11) (take 9 errnoNumbers) (cond (ltb room 12) (take 11 errnoNumbers) errnoNumbers)
 
 -- numbers, the array before and after, and what the call returns
 pub record Writes (numbers before after : List ℕ) (r : ℕ) : Type 0 where
@@ -43,6 +44,16 @@ WritesAnswer image call image′ call′ before after r = Writes (answerNumbers 
 abbrev pub WritesLookup : List ℕ → ℕ → List ℕ → List ℕ → List ℕ → List ℕ → List ℕ → ℕ → Type 0
 WritesLookup image node name image′ name′ before after r =
     Writes (lookupNumbers (lookupName image node name)) before after r × (image′ ≡ image) × (name′ ≡ name)
+
+-- four parts are after the call as they were before it
+abbrev pub PartsStay : Parts → Parts → Type 0
+PartsStay p p′ = (p′ .nodes ≡ p .nodes) × (p′ .mounts ≡ p .mounts) × (p′ .entries ≡ p .entries) × (p′ .text ≡ p .text)
+
+-- the numbers of what building comes to, and the buffer after it; where the array is too short it stays
+pub record WritesBuilt (p : Parts) (buffer buffer′ before after : List ℕ) (r : ℕ) : Type 0 where
+  pub numbers : Writes (builtNumbers (built p (length buffer))) before after r
+  pub buffer-is : 4 ≤ length before → buffer′ ≡ bufferAfter p buffer
+  pub short : length before < 4 → buffer′ ≡ buffer
 
 -- the verdict's numbers and the slots of a start; where the array is too short they stay
 pub record WritesStart (image slots slots′ before after : List ℕ) (r : ℕ) : Type 0 where

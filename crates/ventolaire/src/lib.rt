@@ -1,6 +1,7 @@
 // The C interface: pointers with lengths and numbers in, the answer as numbers into a lent array. A lent array that is too short is
 // left as it was, and 0 is returned; else it is how many numbers were written. All else that is lent stays as it was, but for the 64 slots
 // of a descriptor table, which a call that is not refused may change.
+use builder::build;
 use descriptors::close;
 use descriptors::duplicate;
 use descriptors::open;
@@ -14,6 +15,7 @@ use model::Errno;
 use model::Handle;
 use numbers::errno_number;
 use numbers::put_answer;
+use numbers::put_built;
 use numbers::put_lookup;
 use numbers::put_reply;
 use numbers::put_verdict;
@@ -30,7 +32,8 @@ ghost use Rattle.model.specs.TableCheck.{tableCheck};
 ghost use Rattle.model.specs.Descriptors.{openPath, duplicate, close, setMark, start, serve};
 ghost use Rattle.model.specs.declared.Verdict.the-variants.{Accepted};
 ghost use Rattle.slots.specs.Slots.{slotsBy};
-ghost use Rattle.ventolaire.specs.Written.{callBy, errnosFor, Writes, WritesAnswer, WritesLookup, WritesStart, WritesReply, Stay};
+ghost use Rattle.builder.specs.Counted.{partsBy};
+ghost use Rattle.ventolaire.specs.Written.{callBy, errnosFor, Writes, WritesAnswer, WritesLookup, WritesBuilt, PartsStay, WritesStart, WritesReply, Stay};
 
 // The table check: rule (0: accepted) and record.
 #[no_mangle]
@@ -127,7 +130,30 @@ pub extern "C" fn ventolaire_lookup_accepted(
     4
 }
 
-// The numbers of the errnos, in the order in which they are declared. An array with room for the first nine alone gets these.
+// Writes the image of four parts: error number (0: written), rule, record, bytes.
+#[no_mangle]
+pub extern "C" fn ventolaire_build(
+    nodes: &[u8],
+    mounts: &[u8],
+    entries: &[u8],
+    text: &[u8],
+    buffer: &mut [u8],
+    out: &mut [u64],
+) -> usize
+    ensures { λ r. ⌜ WritesBuilt (partsBy (now (nodes .entry)) (now (mounts .entry)) (now (entries .entry)) (now (text .entry)))
+        (now (buffer .entry)) (now (buffer .exit)) (now (out .entry)) (now (out .exit)) r
+        × PartsStay (partsBy (now (nodes .entry)) (now (mounts .entry)) (now (entries .entry)) (now (text .entry)))
+        (partsBy (now (nodes .exit)) (now (mounts .exit)) (now (entries .exit)) (now (text .exit))) ⌝ }
+{
+    if out.len() <= 3 {
+        return 0;
+    }
+    put_built(out, build(nodes, mounts, entries, text, buffer));
+    4
+}
+
+// The numbers of the errnos, in the order in which they are declared. An array with room for the first
+// eleven alone gets these, and one with room for the first nine alone gets those.
 #[no_mangle]
 pub extern "C" fn ventolaire_errnos(out: &mut [u64]) -> usize
     ensures { λ r. ⌜ Writes (errnosFor (length (now (out .entry)))) (now (out .entry)) (now (out .exit)) r ⌝ }
@@ -150,7 +176,11 @@ pub extern "C" fn ventolaire_errnos(out: &mut [u64]) -> usize
     }
     out[9] = errno_number(Errno::Emfile);
     out[10] = errno_number(Errno::Enotty);
-    11
+    if room < 12 {
+        return 11;
+    }
+    out[11] = errno_number(Errno::Erange);
+    12
 }
 
 // Descriptors as they start, and the table check's verdict.

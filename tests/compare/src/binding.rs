@@ -1,12 +1,13 @@
-//! The Rust crate beside the independent resolver: what its `Table` accepts, reads
-//! and answers, and what its `Descriptors` reply.
+//! The Rust crate beside the independent resolver and builder: what its `Table` accepts,
+//! reads and answers, what its `Descriptors` reply, and what its `Parts` write.
 
+use crate::builder::{self, Built, ERANGE};
 use crate::case::Case;
 use crate::descriptors::{self, Reply};
 use crate::generate::{Cases, Wanted};
-use crate::resolver::{self, DIRECTORY, FILE, LINK, MAGIC};
+use crate::resolver::{self, DIRECTORY, EUCLEAN, FILE, LINK, MAGIC};
 use data::sequence::Step;
-use ventolaire::{Descriptors, Found, Handle, Node, Refusal, Table};
+use ventolaire::{BuildError, Descriptors, Found, Handle, Node, Parts, Refusal, Table};
 
 /// A node by the crate, in numbers and bytes as the resolver has them: kind,
 /// parent, names with their nodes, body, target.
@@ -148,4 +149,44 @@ fn sequences_are_answered_alike() {
         }
     }
     assert!(calls > 10_000, "{calls} calls");
+}
+
+fn lent(parts: &builder::Parts) -> Parts<'_> {
+    let builder::Parts { nodes, mounts, entries, text } = parts;
+    Parts { nodes, mounts, entries, text }
+}
+
+/// A build by the crate, in the builder's numbers.
+fn built(parts: Parts, buffer: &mut [u8]) -> Built {
+    let refused = |numbers| Built { numbers, image: Vec::new() };
+    match parts.build_into(buffer) {
+        Ok(table) => {
+            let image = table.image().to_vec();
+            Built { numbers: [0, 0, 0, image.len() as u64], image }
+        }
+        Err(BuildError::Broken(broken)) => refused([EUCLEAN, broken.rule, broken.record, 0]),
+        Err(BuildError::Short { needed, .. }) => refused([ERANGE, 0, 0, needed as u64]),
+        Err(other) => panic!("{other} is no refusal that the rules have"),
+    }
+}
+
+#[test]
+fn builds_are_answered_alike() {
+    let mut written = 0;
+    for numbered in Cases::new(11, Wanted { builds: 5_000, ..Wanted::default() }) {
+        let Case::Build(build) = &numbered.case else {
+            continue;
+        };
+        let expected = build.expected();
+        let mut buffer = vec![0xA5; build.room];
+        assert_eq!(built(lent(&build.parts), &mut buffer), expected, "{}", numbered.case);
+        let (image, behind) = buffer.split_at(expected.image.len());
+        assert!(image == expected.image && behind.iter().all(|byte| *byte == 0xA5));
+        if expected.numbers[0] == 0 {
+            let table = Table::new(image).expect("a written image is accepted");
+            assert!(table.parts() == lent(&builder::Parts::of(image)), "{}", numbered.case);
+            written += 1;
+        }
+    }
+    assert!(written > 1_000, "{written} written");
 }

@@ -1,5 +1,7 @@
 //! A case, and its comparison.
 
+use crate::build::{Build, Told as BuildTold};
+use crate::builder::Parts;
 use crate::halving::Looked;
 use crate::lookup::Lookup;
 use crate::resolver::{
@@ -11,6 +13,7 @@ use crate::subject::{Handle, Lent, Subject};
 use crate::tried::Tried;
 use data::dice::Dice;
 use data::worked::{call_arguments, check_arguments, sequence_arguments};
+use std::borrow::Cow;
 use std::fmt;
 
 /// The restrictions that demand 3 (RULES 12.3) may add, as bits of resolve;
@@ -75,7 +78,7 @@ impl Call {
     }
 
     /// The same over what the image holds, if that is accepted.
-    fn answer_over(&self, table: Option<&Table>) -> (Answer, Vec<Met>) {
+    pub fn answer_over(&self, table: Option<&Table>) -> (Answer, Vec<Met>) {
         resolve_with_events(table, self.place(), self.mark, &self.path, &self.how)
     }
 
@@ -116,6 +119,7 @@ pub enum Case {
     Call(Call),
     Sequence(Sequence),
     Lookup(Lookup),
+    Build(Build),
 }
 
 /// The case as the arguments of `compare replay`.
@@ -133,6 +137,7 @@ impl fmt::Display for Case {
                 f.write_str(&sequence_arguments(image, steps))
             }
             Case::Lookup(lookup) => lookup.fmt(f),
+            Case::Build(build) => build.fmt(f),
         }
     }
 }
@@ -142,6 +147,13 @@ pub struct Difference {
     pub what: String,
     pub expected: Vec<u64>,
     pub got: Vec<u64>,
+}
+
+impl Difference {
+    /// The same, found where another case was asked for.
+    pub fn of(self, case: &Case) -> Difference {
+        Difference { what: format!("{}, {case}", self.what), ..self }
+    }
 }
 
 /// What was compared and found alike, for the statistics.
@@ -165,6 +177,7 @@ pub enum Alike {
         count: u64,
         answer: Looked,
     },
+    Build(BuildTold),
 }
 
 pub fn same(what: &str, expected: &[u64], got: Vec<u64>) -> Result<(), Difference> {
@@ -194,15 +207,18 @@ impl Case {
             Case::Call(call) => compare_call(subject, call),
             Case::Sequence(sequence) => sequence.compare(subject),
             Case::Lookup(lookup) => lookup.compare(subject),
+            Case::Build(build) => build.compare(subject),
         }
     }
 
-    pub fn image(&self) -> &[u8] {
+    /// The image; for a build that which its parts are as they stand.
+    pub fn image(&self) -> Cow<'_, [u8]> {
         match self {
-            Case::Table(image) => image,
-            Case::Call(call) => &call.image,
-            Case::Sequence(sequence) => &sequence.image,
-            Case::Lookup(lookup) => &lookup.image,
+            Case::Table(image) => image.into(),
+            Case::Call(call) => (&call.image).into(),
+            Case::Sequence(sequence) => (&sequence.image).into(),
+            Case::Lookup(lookup) => (&lookup.image).into(),
+            Case::Build(build) => build.parts.as_they_are().into(),
         }
     }
 
@@ -212,6 +228,7 @@ impl Case {
             Case::Call(call) => Case::Call(Call { image, ..call }),
             Case::Sequence(sequence) => Case::Sequence(Sequence { image, ..sequence }),
             Case::Lookup(lookup) => Case::Lookup(Lookup { image, ..lookup }),
+            Case::Build(build) => Case::Build(build.with_parts(Parts::of(&image))),
         }
     }
 }

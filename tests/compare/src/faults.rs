@@ -15,6 +15,12 @@ macro_rules! faults {
                 match self { $(Fault::$name => $line),* }
             }
 
+            /// Whether it is one of those in the builder.
+            #[cfg(test)]
+            pub fn is_of_builds(self) -> bool {
+                self.found_by().starts_with("build-")
+            }
+
             /// The name of a worked case that finds it.
             pub fn found_by(self) -> &'static str {
                 match self { $(Fault::$name => $case),* }
@@ -190,4 +196,55 @@ faults! {
     NodeForEntry: "the node is told in place of the entry", "lookup-two-later";
     EntryInDirectory: "the entry is told by its place in the directory", "lookup-two-later";
     LookupEnters: "a lookup enters the mount on the node", "lookup-two-later";
+    // Builds: the text that is written.
+    BodiesFirst: "bodies stand before names", "build-narrow";
+    BodiesReversed: "the body of a later link stands before that of an earlier one", "build-bench";
+    CallersOrder: "names and bodies keep the order of the caller's text", "build-bench-backwards";
+    TextShared: "a text that is written twice is shared", "build-dozens";
+    BodyShared: "a body shares the text of a name", "build-bench-shared";
+    TextCopied: "the caller's text is copied as it is", "build-smallest-text";
+    UnnamedDropped: "the body of a link that no entry names is not written", "build-body-1";
+    // Builds: the offsets.
+    BodyOffsetKept: "the offset of a body is not renewed", "build-bench-gaps";
+    NameOffsetKept: "the offset of a name is not renewed", "build-bench-gaps";
+    MagicHasBody: "a magic link is taken for one with a body", "build-bench";
+    OffsetCut8: "a written offset is cut to 8 bits", "build-many";
+    OffsetCut14: "a written offset is cut to 14 bits", "build-largest";
+    OffsetCut16: "the caller's offset is cut to 16 bits", "build-bench-at-65536";
+    OffsetFromHeader: "a written offset is counted from the image's beginning", "build-bench";
+    TotalOfText: "the header's total length is the text's", "build-smallest";
+    // Builds: the length.
+    LongestBuilt: "an image of 65,536 bytes is not built", "build-largest";
+    OutsideUncounted: "the length of a part outside the text is not counted",
+        "build-body-65485-none";
+    FilesCounted: "a file's count is counted as a body's", "build-count-of-file";
+    DirectoriesCounted: "a directory's count is counted as a body's", "build-count-of-directory";
+    CallersTextCounted: "the caller's whole text is counted", "build-smallest-long-text";
+    SumWraps: "the sum of declared lengths wraps at 32 bits", "build-sum-wraps";
+    BodyCut16: "the length of a body is cut to 16 bits in the sum", "build-body-low-16";
+    CutCounted: "a record cut short is counted", "build-cut-at-65536";
+    // Builds: the rules.
+    CutIgnored: "a record cut short is ignored", "build-cut-nodes-1";
+    CountsCut16: "counts of records are cut to 16 bits", "build-65537-nodes";
+    RecordsBeforeLength: "rule 3 is judged before rule 1", "build-5460-nodes";
+    NodesBeforeLength: "rule 4 is judged before rule 1", "build-lowest-1-4";
+    NamesBeforeNodes: "a name outside the text breaks rule 5 before any node rule 4",
+        "build-outside-4-5";
+    OutsideRule3: "a part outside the text breaks rule 3", "build-no-text-last-body";
+    OutsideAtZero: "a part outside the text is charged to record 0", "build-no-text-last-body";
+    FirstSetRight: "a directory's first is set right, not checked", "build-first-more";
+    // Builds: the buffer and the answer.
+    RangeFirst: "ERANGE comes before the rules", "build-short-rule-4-0";
+    RoomBound: "a buffer that just holds the image is too short", "build-room-bench-316";
+    RoomShort: "a buffer that is a byte too short is let through", "build-room-bench-315";
+    RoomByCaller: "the buffer must hold the caller's text", "build-smallest-long-text";
+    RangeTellsRoom: "ERANGE tells the length of the buffer", "build-room-bench-0";
+    RangeWrites: "with ERANGE the buffer is written as far as it goes", "build-room-bench-315";
+    RefusalClears: "a refusal clears the buffer", "build-short-rule-4-315";
+    RefusalTellsBytes: "EUCLEAN tells the length of the image", "build-runs";
+    BeyondZeroed: "the bytes beyond the image are cleared", "build-room-bench-318";
+    ByteBeyond: "a byte beyond the image is cleared", "build-room-bench-317";
+    BytesShort: "the length told is one less", "build-bench";
+    BytesOfBuffer: "the length told is that of the buffer", "build-room-bench-317";
+    TouchedText: "the last byte of the lent text is changed", "build-bench";
 }

@@ -18,7 +18,7 @@ pub struct Lookup {
 /// How many numbers an answer has.
 const ROOM: usize = 4;
 const CHECKED: Way = Way { accepted: false, room: ROOM };
-const ACCEPTED: Way = Way { accepted: true, room: ROOM };
+pub const ACCEPTED: Way = Way { accepted: true, room: ROOM };
 
 /// Outputs that are too short, and one that has room behind the answer.
 const OTHER_ROOMS: [usize; 3] = [0, ROOM - 1, ROOM + 2];

@@ -1,6 +1,6 @@
-//! Compares Ventolaire's resolver, descriptors and lookups with independent second ones over
-//! many seeded inputs, and both with the list of worked cases. `compare --help` has
-//! the commands.
+//! Compares Ventolaire's resolver, descriptors, lookups and builder with independent second
+//! ones over many seeded inputs, and both with the list of worked cases. `compare --help`
+//! has the commands.
 //!
 //! Built with the feature `subject` it compares with the library:
 //!
@@ -14,6 +14,8 @@
 mod arguments;
 #[cfg(all(test, feature = "subject"))]
 mod binding;
+mod build;
+mod builder;
 mod case;
 mod descriptors;
 mod faults;
@@ -33,6 +35,8 @@ mod tried;
 mod worked;
 
 use arguments::Arguments;
+use build::{Build, MOST_ROOM};
+use builder::Parts;
 use case::{Call, Case};
 use generate::{Cases, Wanted};
 use lookup::Lookup;
@@ -45,35 +49,37 @@ use std::time::{Duration, Instant};
 use subject::{Subject, Way};
 
 const HELP: &str = "\
-Compares the resolver, the descriptors and the lookups with independent second ones.
+Compares the resolver, the descriptors, the lookups and the builder with independent second ones.
 
-compare [--seed N] [--calls N] [--tables N] [--sequences N] [--lookups N] [--seconds N] [--stats]
-        [--announce]
+compare [--seed N] [--calls N] [--tables N] [--sequences N] [--lookups N] [--builds N]
+        [--seconds N] [--stats] [--announce]
 compare replay --image HEX [[--mount N] [--node N] [--mark 0|1] --path HEX --how HEX
                [--added N] [--added-mark 0|1]]
 compare replay --image HEX --sequence CALL[,CALL]..
 compare replay --image HEX [--node N] --name HEX
-compare show [--seed N] --call N | --table N | --sequence N | --lookup N
+compare replay [--nodes HEX] [--mounts HEX] [--entries HEX] [--text HEX] --room N
+compare show [--seed N] --call N | --table N | --sequence N | --lookup N | --build N
 compare cases FILE
 compare faults [--seed N] [--cases FILE]
 compare --help
 
 Without a command, inputs are made from the seed, 1 if not given: as many as said, or as many as
 take so many seconds. A sequence is up to 200 calls on descriptors, a lookup is that of a name in
-one directory. A difference is shrunk and printed as the arguments of `compare replay`, which shows
-both answers to it; a CALL on descriptors is open:NUMBER:MARK:PATH:HOW[:ADDED:ADDED_MARK] with the
-bytes in hexadecimal, dup:NUMBER, close:NUMBER or set_mark:NUMBER. `compare show` prints one input
-of a run. `compare cases` asks both sides for the answers to the list of worked cases,
-crates/cases/stdin. `compare faults` plants faults in a resolver and sees that each is found by the
-comparison, and with a list of cases also by the case that it is known to be found by. In a build
-without the library, `--fault NAME` plants one of them.
+one directory, a build writes an image from its parts into a buffer with room for so many bytes. A
+difference is shrunk and printed as the arguments of `compare replay`, which shows both answers to
+it; a CALL on descriptors is open:NUMBER:MARK:PATH:HOW[:ADDED:ADDED_MARK] with the bytes in
+hexadecimal, dup:NUMBER, close:NUMBER or set_mark:NUMBER. `compare show` prints one input of a run.
+`compare cases` asks both sides for the answers to the list of worked cases, crates/cases/stdin.
+`compare faults` plants faults in a resolver and sees that each is found by the comparison, and with
+a list of cases also by the case that it is known to be found by. In a build without the library,
+`--fault NAME` plants one of them.
 
 The last line counts what passed and what failed. The status is 0, 1 if anything failed, 2 if the
 arguments or a file are wrong.
 ";
 
 const USUAL: Wanted =
-    Wanted { tables: 100_000, calls: 300_000, sequences: 30_000, lookups: 500_000 };
+    Wanted { tables: 100_000, calls: 300_000, sequences: 30_000, lookups: 500_000, builds: 60_000 };
 /// After so many differences a run ends.
 const MOST_DIFFERENCES: u64 = 3;
 /// A case that takes longer has not ended.
@@ -155,7 +161,7 @@ struct Run {
 
 impl Run {
     fn of(arguments: &Arguments) -> Result<Run, String> {
-        let counts = ["--tables", "--calls", "--sequences", "--lookups"];
+        let counts = ["--tables", "--calls", "--sequences", "--lookups", "--builds"];
         let options = [&counts[..], &["--seed", "--seconds", "--fault"]].concat();
         arguments.known(&["--stats", "--announce"], &options)?;
         let seconds = arguments.number("--seconds")?;
@@ -170,6 +176,7 @@ impl Run {
             calls: count("--calls", USUAL.calls)?,
             sequences: count("--sequences", USUAL.sequences)?,
             lookups: count("--lookups", USUAL.lookups)?,
+            builds: count("--builds", USUAL.builds)?,
         };
         Ok(Run {
             seed: arguments.number("--seed")?.unwrap_or(1),
@@ -221,7 +228,7 @@ fn run(arguments: &Arguments) -> Result<bool, String> {
         "seed {}: {} tables checked, {} of them accepted; {} calls, {} of them found, \
          each with a second call, {} of these stopped by an added restriction; {} sequences \
          of {} calls on descriptors, {} of them with all 64 open; {} lookups, {} of them \
-         found; {:.1} s",
+         found; {} builds, {} of them written; {:.1} s",
         run.seed,
         stats.tables,
         stats.accepted,
@@ -233,6 +240,8 @@ fn run(arguments: &Arguments) -> Result<bool, String> {
         stats.descriptors.filled,
         stats.lookups.lookups,
         stats.lookups.found,
+        stats.builds.builds,
+        stats.builds.written,
         since.elapsed().as_secs_f64()
     );
     println!("{} passed, {failed} failed", stats.cases());
@@ -243,6 +252,9 @@ fn run(arguments: &Arguments) -> Result<bool, String> {
 fn given(arguments: &Arguments) -> Result<Case, String> {
     let numbers = ["--mount", "--node", "--mark", "--added", "--added-mark"];
     let bytes = ["--image", "--path", "--how", "--name"];
+    if PARTS.iter().any(|name| arguments.flag(name)) {
+        return given_build(arguments);
+    }
     arguments.known(&[], &[&numbers[..], &bytes, &["--sequence", "--fault"]].concat())?;
     let image = arguments.bytes("--image")?;
     let is_call = arguments.flag("--path") || arguments.flag("--how");
@@ -276,18 +288,50 @@ fn given(arguments: &Arguments) -> Result<Case, String> {
     }))
 }
 
+/// What tells a build.
+const PARTS: [&str; 5] = ["--nodes", "--mounts", "--entries", "--text", "--room"];
+
+fn given_build(arguments: &Arguments) -> Result<Case, String> {
+    arguments.known(&[], &[&PARTS[..], &["--fault"]].concat())?;
+    let room = arguments.number("--room")?.ok_or("a build wants --room N")?;
+    let room = usize::try_from(room).ok().filter(|room| *room <= MOST_ROOM);
+    let parts = Parts {
+        nodes: arguments.bytes("--nodes")?,
+        mounts: arguments.bytes("--mounts")?,
+        entries: arguments.bytes("--entries")?,
+        text: arguments.bytes("--text")?,
+    };
+    let room = room.ok_or(format!("--room is at most {MOST_ROOM}"))?;
+    Ok(Case::Build(Build { parts, room }))
+}
+
 /// Both answers to one given case.
 fn replay(arguments: &Arguments) -> Result<bool, String> {
     let case = given(arguments)?;
     let mut subject = subject(arguments)?;
-    println!("check:");
-    println!("  expected {:?}", resolver::check(case.image()));
-    println!("  got      {:?}", subject.check(&mut case.image().to_vec()));
-    match &case {
+    if !matches!(case, Case::Build(_)) {
+        println!("check:");
+        println!("  expected {:?}", resolver::check(&case.image()));
+        println!("  got      {:?}", subject.check(&mut case.image().to_vec()));
+    }
+    print_answers(&case, subject.as_mut());
+    describe(&case);
+    let compared = case.compare(subject.as_mut());
+    if let Err(difference) = &compared {
+        print_difference(difference);
+    }
+    let passed = u8::from(compared.is_ok());
+    println!("{passed} passed, {} failed", 1 - passed);
+    Ok(compared.is_ok())
+}
+
+/// Both answers, besides that to the check of the image.
+fn print_answers(case: &Case, subject: &mut dyn Subject) {
+    match case {
         Case::Table(_) => {}
-        Case::Call(call) => call_answers(call, subject.as_mut()),
+        Case::Call(call) => call_answers(call, subject),
         Case::Sequence(sequence) => {
-            let (got, _) = sequence.got(subject.as_mut(), Way::CHECKED);
+            let (got, _) = sequence.got(subject, Way::CHECKED);
             // The start's is the check's.
             let replies = sequence.expected().into_iter().zip(got).skip(1);
             for ((number, step), (expected, got)) in sequence.steps.iter().enumerate().zip(replies)
@@ -297,19 +341,17 @@ fn replay(arguments: &Arguments) -> Result<bool, String> {
         }
         Case::Lookup(lookup) => {
             println!("lookup:\n  expected {:?}", lookup.expected());
-            for (got, _) in lookup.got(subject.as_mut()) {
+            for (got, _) in lookup.got(subject) {
                 println!("  got      {got:?}");
             }
         }
+        Case::Build(build) => {
+            let built = build.expected();
+            println!("build:\n  expected {:?}", built.numbers);
+            println!("  got      {:?}", build.got(subject, &built.image).0);
+            println!("  image    {}", data::hex(&built.image));
+        }
     }
-    describe(&case);
-    let compared = case.compare(subject.as_mut());
-    if let Err(difference) = &compared {
-        print_difference(difference);
-    }
-    let passed = u8::from(compared.is_ok());
-    println!("{passed} passed, {} failed", 1 - passed);
-    Ok(compared.is_ok())
 }
 
 /// The call, the same from another handle if its own is not checked, and the second call.
@@ -334,10 +376,10 @@ fn answers(title: &str, call: &Call, subject: &mut dyn Subject) {
 
 /// The bytes of one case of a run, without comparing it.
 fn show(arguments: &Arguments) -> Result<bool, String> {
-    arguments.known(&[], &["--seed", "--call", "--table", "--sequence", "--lookup"])?;
+    arguments.known(&[], &["--seed", "--call", "--table", "--sequence", "--lookup", "--build"])?;
     let seed = arguments.number("--seed")?.unwrap_or(1);
     let mut numbers = Vec::new();
-    for stream in ["call", "table", "sequence", "lookup"] {
+    for stream in ["call", "table", "sequence", "lookup", "build"] {
         let number = arguments.number(&format!("--{stream}"))?;
         numbers.extend(number.map(|number| (stream, number)));
     }
@@ -345,7 +387,8 @@ fn show(arguments: &Arguments) -> Result<bool, String> {
         [(stream, number)] => generate::one(seed, stream, number),
         _ => None,
     };
-    let case = case.ok_or("show wants --call N, --table N, --sequence N or --lookup N")?;
+    let wanted = "show wants --call N, --table N, --sequence N, --lookup N or --build N";
+    let case = case.ok_or(wanted)?;
     describe(&case);
     println!("replay {case}");
     Ok(true)

@@ -29,10 +29,10 @@ fn found_by_cases(fault: Fault, cases: &[Worked]) -> Option<String> {
 }
 
 /// A tenth of what is wanted.
-fn fewer(Wanted { tables, calls, sequences, lookups }: Wanted) -> Wanted {
-    let [tables, calls, sequences, lookups] =
-        [tables, calls, sequences, lookups].map(|count| count / 10);
-    Wanted { tables, calls, sequences, lookups }
+fn fewer(Wanted { tables, calls, sequences, lookups, builds }: Wanted) -> Wanted {
+    let [tables, calls, sequences, lookups, builds] =
+        [tables, calls, sequences, lookups, builds].map(|count| count / 10);
+    Wanted { tables, calls, sequences, lookups, builds }
 }
 
 /// Plants each fault in turn and sees that it is found.

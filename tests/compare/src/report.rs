@@ -1,5 +1,6 @@
 //! Differences and cases, told.
 
+use crate::builder::Parts;
 use crate::case::{Call, Case, Difference};
 use crate::generate::Numbered;
 use crate::resolver;
@@ -32,7 +33,7 @@ pub fn report(seed: u64, numbered: &Numbered, difference: &Difference, subject: 
 
 /// The case in words, as far as its table can be read.
 pub fn describe(case: &Case) {
-    if let Ok(table) = resolver::accept(case.image()) {
+    if let Ok(table) = resolver::accept(&case.image()) {
         let tree = tree::of(&table);
         for (number, node) in tree.nodes.iter().enumerate() {
             println!("  node {number}: {}", in_words(node));
@@ -51,6 +52,12 @@ pub fn describe(case: &Case) {
         }
         Case::Lookup(lookup) => {
             println!("  in node {}, name \"{}\"", lookup.node, lookup.name.escape_ascii());
+        }
+        Case::Build(build) => {
+            let Parts { nodes, mounts, entries, text } = &build.parts;
+            let [nodes, mounts, entries, text] = [nodes, mounts, entries, text].map(Vec::len);
+            println!("  parts of {nodes}, {mounts}, {entries} and {text} bytes");
+            println!("  a buffer of {} bytes", build.room);
         }
     }
 }

@@ -67,7 +67,8 @@ pub struct Entry {
     pub node: u64,
 }
 
-/// The parsed records. Handed out only by `accept`, so all rules hold.
+/// The parsed records. In one that `accept` hands out all rules hold; the builder has its own
+/// of the caller's parts.
 #[derive(Clone, Debug)]
 pub struct Table<'a> {
     pub nodes: Vec<Node>,
@@ -83,7 +84,7 @@ pub struct Broken {
     pub record: u64,
 }
 
-fn broken<T>(rule: u64, record: u64) -> Result<T, Broken> {
+pub fn broken<T>(rule: u64, record: u64) -> Result<T, Broken> {
     Err(Broken { rule, record })
 }
 
@@ -113,10 +114,7 @@ pub fn check(image: &[u8]) -> [u64; 2] {
 /// is the lowest; within a rule the records in theirs.
 pub fn accept(image: &[u8]) -> Result<Table<'_>, Broken> {
     let table = read(image)?;
-    table.rule_4()?;
-    table.rule_5()?;
-    table.rule_6()?;
-    table.rule_7()?;
+    table.rules_4_to_7()?;
     Ok(table)
 }
 
@@ -135,50 +133,49 @@ fn read(image: &[u8]) -> Result<Table<'_>, Broken> {
     let text = value(&header[12..16]);
     let total = value(&header[16..20]);
     let sum = 20 + 12 * nodes + 8 * mounts + 8 * entries + text;
-    if !(1..=4096).contains(&nodes)
-        || !(1..=256).contains(&mounts)
-        || entries > 4096
-        || total != sum
-        || sum != image.len() as u64
-    {
+    if !counts_are_right(nodes, mounts, entries) || total != sum || sum != image.len() as u64 {
         return broken(3, 0);
     }
     // Rule 3 holds, so the bodies have exactly these lengths.
     let (node_bytes, bodies) = bodies.split_at(12 * nodes as usize);
     let (mount_bytes, bodies) = bodies.split_at(8 * mounts as usize);
     let (entry_bytes, text) = bodies.split_at(8 * entries as usize);
-    Ok(Table {
-        nodes: node_bytes
-            .chunks_exact(12)
-            .map(|record| Node {
-                kind: value(&record[0..2]),
-                parent: value(&record[2..4]),
-                first: value(&record[4..8]),
-                count: value(&record[8..12]),
-            })
-            .collect(),
-        mounts: mount_bytes
-            .chunks_exact(8)
-            .map(|record| Mount {
-                root: value(&record[0..2]),
-                parent: value(&record[2..4]),
-                point: value(&record[4..6]),
-                zero: value(&record[6..8]),
-            })
-            .collect(),
-        entries: entry_bytes
-            .chunks_exact(8)
-            .map(|record| Entry {
-                offset: value(&record[0..4]),
-                length: value(&record[4..6]),
-                node: value(&record[6..8]),
-            })
-            .collect(),
-        text,
-    })
+    Ok(Table::of(node_bytes, mount_bytes, entry_bytes, text))
+}
+
+/// Rule 3, as far as it is about how many records there are.
+pub fn counts_are_right(nodes: u64, mounts: u64, entries: u64) -> bool {
+    (1..=4096).contains(&nodes) && (1..=256).contains(&mounts) && entries <= 4096
 }
 
 impl<'a> Table<'a> {
+    /// The whole records in these bytes, and the text that they reach into.
+    pub fn of(nodes: &[u8], mounts: &[u8], entries: &[u8], text: &'a [u8]) -> Table<'a> {
+        let node = |record: &[u8]| Node {
+            kind: value(&record[0..2]),
+            parent: value(&record[2..4]),
+            first: value(&record[4..8]),
+            count: value(&record[8..12]),
+        };
+        let mount = |record: &[u8]| Mount {
+            root: value(&record[0..2]),
+            parent: value(&record[2..4]),
+            point: value(&record[4..6]),
+            zero: value(&record[6..8]),
+        };
+        let entry = |record: &[u8]| Entry {
+            offset: value(&record[0..4]),
+            length: value(&record[4..6]),
+            node: value(&record[6..8]),
+        };
+        Table {
+            nodes: nodes.chunks_exact(12).map(node).collect(),
+            mounts: mounts.chunks_exact(8).map(mount).collect(),
+            entries: entries.chunks_exact(8).map(entry).collect(),
+            text,
+        }
+    }
+
     pub fn node(&self, number: u64) -> Option<&Node> {
         at(&self.nodes, number)
     }
@@ -225,6 +222,13 @@ impl<'a> Table<'a> {
                 _ => return false,
             }
         }
+    }
+
+    pub fn rules_4_to_7(&self) -> Result<(), Broken> {
+        self.rule_4()?;
+        self.rule_5()?;
+        self.rule_6()?;
+        self.rule_7()
     }
 
     fn rule_4(&self) -> Result<(), Broken> {

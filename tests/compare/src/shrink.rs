@@ -1,5 +1,7 @@
 //! Makes a case that shows a difference smaller, as long as it still does.
 
+mod builds;
+
 use crate::case::{Call, Case};
 use crate::lookup::Lookup;
 use crate::resolver::accept;
@@ -94,7 +96,8 @@ impl Shrinker<'_> {
         for index in 0..with_a_path {
             self.shrink_parts(index);
         }
-        if accept(self.best.image()).is_ok() {
+        self.shrink_build();
+        if accept(&self.best.image()).is_ok() {
             self.shrink_table();
         } else {
             self.shrink_bytes();
@@ -214,13 +217,14 @@ impl Shrinker<'_> {
     }
 
     fn shrink_table(&mut self) {
-        let Ok(table) = accept(self.best.image()) else {
+        let image = self.best.image().into_owned();
+        let Ok(table) = accept(&image) else {
             return;
         };
         let mut tree = tree::of(&table);
         // From here on the image is the tree's.
         let in_place = tree::in_place(&table);
-        if self.best.image() != tree.shared_image() && !self.attempt_tree(&tree, |_| {}) {
+        if image != tree.shared_image() && !self.attempt_tree(&tree, |_| {}) {
             tree = in_place;
         }
         self.shrink_nodes(&mut tree);
@@ -363,7 +367,7 @@ impl Shrinker<'_> {
         }
         for part in 0..4 {
             let mut index = 0;
-            while let Some(image) = without_record(self.best.image(), part, index) {
+            while let Some(image) = without_record(&self.best.image(), part, index) {
                 if self.spent() {
                     return;
                 }
@@ -420,7 +424,7 @@ struct Parts<'a> {
 /// The calls of a case that have a path: itself, or the opens of a sequence.
 fn parts(case: &mut Case) -> Vec<Parts<'_>> {
     match case {
-        Case::Table(_) | Case::Lookup(_) => Vec::new(),
+        Case::Table(_) | Case::Lookup(_) | Case::Build(_) => Vec::new(),
         Case::Call(Call { mark, path, how, added, added_mark, .. }) => {
             vec![Parts { mark, path, how, added, added_mark }]
         }
@@ -476,8 +480,18 @@ mod tests {
 
     /// A difference that a fault gives, and what is left of it.
     fn shrunk(fault: Fault) -> (Case, Case) {
+        // Builds ask for calls and lookups too, and would come before these.
+        let wanted = match fault.is_of_builds() {
+            true => Wanted { builds: 3_000, ..Wanted::default() },
+            false => Wanted {
+                tables: 5_000,
+                calls: 15_000,
+                sequences: 1_000,
+                lookups: 15_000,
+                ..Wanted::default()
+            },
+        };
         let mut subject = Planted(Some(fault));
-        let wanted = Wanted { tables: 5_000, calls: 15_000, sequences: 1_000, lookups: 15_000 };
         let case = Cases::new(3, wanted)
             .map(|numbered| numbered.case)
             .find(|case| case.compare(&mut subject).is_err());
@@ -525,6 +539,28 @@ mod tests {
         }
     }
 
+    #[test]
+    fn a_shrunk_build_has_few_records_and_bytes() {
+        for (fault, records, bytes) in [
+            (Fault::BodiesFirst, 5, 2),
+            (Fault::BodiesReversed, 4, 3),
+            (Fault::TextShared, 4, 1),
+            (Fault::NameOffsetKept, 5, 2),
+            (Fault::CutIgnored, 2, 0),
+            (Fault::OutsideRule3, 3, 0),
+            (Fault::RangeFirst, 2, 0),
+            (Fault::RoomBound, 2, 0),
+            (Fault::ByteBeyond, 2, 0),
+        ] {
+            let (case, small) = shrunk(fault);
+            let Case::Build(build) = &small else { panic!("{fault:?}: {case}") };
+            let tree = build.parts.table();
+            let left = tree.nodes.len() + tree.mounts.len() + tree.entries.len();
+            let text = build.parts.text.len();
+            assert!(left <= records && text <= bytes, "{fault:?}: {small}");
+        }
+    }
+
     /// With a place for each of its names the table would be too long.
     #[test]
     fn names_that_share_text_are_made_fewer() {
@@ -538,7 +574,8 @@ mod tests {
         let (image, name) = (tree.image(), text.part(900, 250).bytes);
         let case = Case::Lookup(Lookup { image, node: 0, name });
         let small = shrink(&mut Planted(Some(Fault::EqualUncounted)), &case);
-        let table = accept(small.image()).expect("a table");
+        let image = small.image();
+        let table = accept(&image).expect("a table");
         let [entry] = &table.entries[..] else { panic!("{small}") };
         assert_eq!((entry.length, table.text.len()), (1, 1), "{small}");
     }

@@ -1,12 +1,15 @@
 //! How often each kind of answer, rule, event and count occurred.
 
+mod builds;
 mod handles;
 mod lookups;
 mod sequences;
 
+use crate::builder::ERANGE;
 use crate::case::Alike;
 use crate::descriptors::{EMFILE, ENOTTY};
 use crate::resolver::{Answer, Event, Met};
+use builds::Builds;
 use handles::Handles;
 use lookups::Lookups;
 use sequences::Sequences;
@@ -32,6 +35,7 @@ pub struct Stats {
     handles: Handles,
     pub descriptors: Sequences,
     pub lookups: Lookups,
+    pub builds: Builds,
 }
 
 fn share(count: u64, of: u64) -> f64 {
@@ -53,6 +57,7 @@ const fn errno_name(errno: u64) -> &'static str {
         22 => "EINVAL",
         EMFILE => "EMFILE",
         ENOTTY => "ENOTTY",
+        ERANGE => "ERANGE",
         36 => "ENAMETOOLONG",
         40 => "ELOOP",
         117 => "EUCLEAN",
@@ -87,7 +92,11 @@ fn range(count: u64, bounds: &[u64]) -> (u64, String) {
 
 impl Stats {
     pub fn cases(&self) -> u64 {
-        self.tables + self.calls + self.descriptors.sequences + self.lookups.lookups
+        self.tables
+            + self.calls
+            + self.descriptors.sequences
+            + self.lookups.lookups
+            + self.builds.builds
     }
 
     pub fn note(&mut self, alike: &Alike) {
@@ -116,6 +125,7 @@ impl Stats {
             }
             Alike::Sequence { accepted, told } => self.descriptors.note(*accepted, told),
             Alike::Lookup { count, answer } => self.lookups.note(*count, answer),
+            Alike::Build(told) => self.builds.note(told),
         }
     }
 
@@ -175,7 +185,10 @@ impl Stats {
             .filter(|name| !self.events.contains_key(name) || !self.stops.contains_key(name))
             .map(String::from);
         let handles = self.handles.missing_in_calls().into_iter();
-        let others = handles.chain(self.descriptors.missing()).chain(self.lookups.missing());
+        let others = handles
+            .chain(self.descriptors.missing())
+            .chain(self.lookups.missing())
+            .chain(self.builds.missing());
         rules.chain(answers).chain(events).chain(others).collect()
     }
 
@@ -193,6 +206,7 @@ impl Stats {
         self.print_walks();
         self.descriptors.print();
         self.lookups.print();
+        self.builds.print();
     }
 
     fn print_answers(&self) {

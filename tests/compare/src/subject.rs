@@ -1,6 +1,7 @@
 //! What is compared with the resolver: the library through its C functions,
 //! or the faulty resolver.
 
+use crate::builder::Parts;
 use crate::descriptors::SLOTS;
 use crate::faults::Fault;
 use crate::faulty;
@@ -40,7 +41,7 @@ impl Way {
 }
 
 /// Each function gives the numbers that the subject wrote: two for a check or a start, six
-/// for a call, seven for one on descriptors, four for a lookup.
+/// for a call, seven for one on descriptors, four for a lookup or a build.
 pub trait Subject {
     fn check(&mut self, image: &mut [u8]) -> Vec<u64>;
     fn resolve(&mut self, lent: &mut Lent, handle: Handle) -> Vec<u64>;
@@ -51,6 +52,8 @@ pub trait Subject {
     fn act(&mut self, image: &mut [u8], slots: &mut Slots, step: &mut Step, way: Way) -> Vec<u64>;
     /// A lookup of a name in the directory `node`.
     fn lookup(&mut self, image: &mut [u8], node: u64, name: &mut [u8], way: Way) -> Vec<u64>;
+    /// A build into the buffer, with room for so many numbers.
+    fn build(&mut self, parts: &mut Parts, buffer: &mut [u8], room: usize) -> Vec<u64>;
 }
 
 /// The second shape of the resolver, with a fault planted or none.
@@ -91,6 +94,13 @@ impl Subject for Planted {
             return Vec::new();
         }
         faulty::lookup(self.0, image, node, name, way.accepted).to_vec()
+    }
+
+    fn build(&mut self, parts: &mut Parts, buffer: &mut [u8], room: usize) -> Vec<u64> {
+        if room < 4 {
+            return Vec::new();
+        }
+        faulty::build(self.0, parts, buffer).to_vec()
     }
 }
 

@@ -1,5 +1,7 @@
 //! The list of worked cases, asked of both sides.
 
+use crate::build::Build;
+use crate::builder::{Built, Parts};
 use crate::case::{Call, Case, Difference};
 use crate::lookup::Lookup;
 use crate::resolver;
@@ -30,6 +32,10 @@ impl From<data::worked::Worked> for Worked {
             Asked::Sequence(steps) => Case::Sequence(Sequence { image, steps }),
             Asked::Lookup(data::worked::Lookup { node, name }) => {
                 Case::Lookup(Lookup { image, node, name })
+            }
+            Asked::Build(data::worked::Build { nodes, mounts, entries, text, room, .. }) => {
+                let parts = Parts { nodes, mounts, entries, text };
+                Case::Build(Build { parts, room: room as usize })
             }
         };
         Worked { listed, case }
@@ -66,6 +72,12 @@ impl Worked {
             Case::Call(call) => call.answer().0.numbers().to_vec(),
             Case::Sequence(sequence) => sequence.expected().pop().unwrap_or_default(),
             Case::Lookup(lookup) => lookup.expected().to_vec(),
+            Case::Build(build) => {
+                let Built { numbers, image } = build.expected();
+                // As where a subject leaves another buffer.
+                let is_other = image != self.written();
+                [&numbers[..], if is_other { &[1] } else { &[] }].concat()
+            }
         };
         self.compare("the comparing resolver", got)
     }
@@ -105,6 +117,15 @@ impl Worked {
                 sequence.ways().iter().map(last).collect()
             }
             Case::Lookup(lookup) => lookup.got(subject),
+            Case::Build(build) => vec![build.got(subject, self.written())],
+        }
+    }
+
+    /// The image that a build is to write; empty if it is refused.
+    fn written(&self) -> &[u8] {
+        match &self.listed.asked {
+            Asked::Build(build) => &build.written,
+            _ => &[],
         }
     }
 

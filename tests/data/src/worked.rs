@@ -1,5 +1,5 @@
-//! The list of worked cases: table checks, calls, sequences of calls on descriptors, and
-//! lookups, whose answers were worked out by hand. tests/cases writes it, as the input of
+//! The list of worked cases: table checks, calls, sequences of calls on descriptors, lookups,
+//! and builds, whose answers were worked out by hand. tests/cases writes it, as the input of
 //! the program crates/cases, which says how it is laid out.
 
 use crate::fields::get;
@@ -12,18 +12,20 @@ use std::io::Read;
 /// Where the list stands, seen from a package in a folder of the repository.
 pub const LIST: &str = "crates/cases/stdin";
 
-const RECORD: usize = 84;
+const RECORD: usize = 100;
 /// The program has room for no more.
-const MOST: u64 = 1 << 20;
+const MOST: u64 = 2 << 20;
 
 #[derive(Clone, Debug, PartialEq)]
 pub struct Worked {
     pub name: String,
+    /// Empty for a build, which has parts instead.
     pub image: Vec<u8>,
     pub asked: Asked,
     /// Rule and record of a check or a start; errno (0 if found or done), detail, mount,
     /// node, components and links of a call, and of one on descriptors the number given;
-    /// errno, entry, node and names compared of a lookup.
+    /// errno, entry, node and names compared of a lookup; errno (0 if written), rule, record
+    /// and bytes of a build.
     pub expected: Vec<u64>,
 }
 
@@ -36,6 +38,7 @@ pub enum Asked {
     /// call, the start.
     Sequence(Vec<Step>),
     Lookup(Lookup),
+    Build(Build),
 }
 
 #[derive(Clone, Debug, PartialEq)]
@@ -54,6 +57,19 @@ pub struct Lookup {
     pub name: Vec<u8>,
 }
 
+/// Four parts that an image is built from, into a buffer of `room` bytes.
+#[derive(Clone, Debug, PartialEq)]
+pub struct Build {
+    pub nodes: Vec<u8>,
+    pub mounts: Vec<u8>,
+    pub entries: Vec<u8>,
+    pub text: Vec<u8>,
+    pub room: u64,
+    /// The image that the buffer must begin with afterwards; empty where the build is
+    /// refused.
+    pub written: Vec<u8>,
+}
+
 /// The list in a file. The error is one line that names the file.
 pub fn read_file(file: &str) -> Result<Vec<Worked>, String> {
     let mut bytes = Vec::new();
@@ -66,7 +82,7 @@ pub fn read_file(file: &str) -> Result<Vec<Worked>, String> {
 /// The list in bytes.
 pub fn read(list: &[u8]) -> Result<Vec<Worked>, String> {
     if list.len() as u64 > MOST {
-        return Err("it has more than 1 MiB".into());
+        return Err("it has more than 2 MiB".into());
     }
     let count = get(list, 0, 4).ok_or("it is cut off")? as usize;
     if count == 0 {
@@ -105,12 +121,31 @@ impl Record<'_> {
     }
 
     fn read(&self, started: &mut Started) -> Option<Worked> {
-        let image = self.part(4)?;
-        let (asked, count) = match self.number(0, 4)? {
+        let (image, (asked, count)) = match self.number(0, 4)? {
+            9 => (Vec::new(), (Asked::Build(self.build()?), 4)),
+            kind => {
+                // Only a build has a text and an image to be written.
+                self.zero(&[(88, 4), (96, 4)])?;
+                let image = self.part(4)?;
+                let asked = self.asked(kind, &image, started)?;
+                (image, asked)
+            }
+        };
+        let mut expected =
+            (0..7).map(|i| self.number(56 + 4 * i, 4)).collect::<Option<Vec<u64>>>()?;
+        let unused = expected.split_off(count);
+        let name = String::from_utf8(self.part(28)?).ok()?;
+        let worked = Worked { name, image, asked, expected };
+        unused.iter().all(|number| *number == 0).then_some(worked)
+    }
+
+    /// What is asked over an image, and how many numbers its answer has.
+    fn asked(&self, kind: u64, image: &[u8], started: &mut Started) -> Option<(Asked, usize)> {
+        Some(match kind {
             1 => (Asked::Check, 2),
             2 => (Asked::Call(self.call()?), 6),
             3 => {
-                *started = Some((image.clone(), Vec::new()));
+                *started = Some((image.to_vec(), Vec::new()));
                 (Asked::Sequence(Vec::new()), 2)
             }
             8 => (Asked::Lookup(self.lookup()?), 4),
@@ -120,13 +155,12 @@ impl Record<'_> {
                 steps.push(step);
                 (Asked::Sequence(steps.clone()), 7)
             }
-        };
-        let mut expected =
-            (0..7).map(|i| self.number(56 + 4 * i, 4)).collect::<Option<Vec<u64>>>()?;
-        let unused = expected.split_off(count);
-        let name = String::from_utf8(self.part(28)?).ok()?;
-        let worked = Worked { name, image, asked, expected };
-        unused.iter().all(|number| *number == 0).then_some(worked)
+        })
+    }
+
+    /// Something if these numbers, by place and width, are all zero.
+    fn zero(&self, numbers: &[(usize, usize)]) -> Option<()> {
+        numbers.iter().all(|(from, width)| self.number(*from, *width) == Some(0)).then_some(())
     }
 
     fn call(&self) -> Option<Call> {
@@ -141,9 +175,22 @@ impl Record<'_> {
 
     /// A lookup; its name stands where a call has its path, and nothing where a call has more.
     fn lookup(&self) -> Option<Lookup> {
-        let unused = [self.number(24, 4)?, self.number(36, 4)?, self.number(40, 8)?];
-        let lookup = Lookup { node: self.number(48, 8)?, name: self.part(12)? };
-        unused.iter().all(|number| *number == 0).then_some(lookup)
+        self.zero(&[(24, 4), (36, 4), (40, 8)])?;
+        Some(Lookup { node: self.number(48, 8)?, name: self.part(12)? })
+    }
+
+    /// A build; its records stand where a call has image, path and open_how, the length of
+    /// the buffer where one has its mount, and nothing where one has mark and node.
+    fn build(&self) -> Option<Build> {
+        self.zero(&[(36, 4), (48, 8)])?;
+        Some(Build {
+            nodes: self.part(4)?,
+            mounts: self.part(12)?,
+            entries: self.part(20)?,
+            text: self.part(84)?,
+            room: self.number(40, 8)?,
+            written: self.part(92)?,
+        })
     }
 
     /// A call on descriptors; its number stands where a handle has its mount.
@@ -178,6 +225,9 @@ impl fmt::Display for Worked {
             Asked::Lookup(Lookup { node, name }) => {
                 f.write_str(&lookup_arguments(&self.image, *node, name))
             }
+            Asked::Build(Build { nodes, mounts, entries, text, room, .. }) => {
+                f.write_str(&build_arguments(nodes, mounts, entries, text, *room))
+            }
         }
     }
 }
@@ -209,6 +259,18 @@ pub fn sequence_arguments(image: &[u8], steps: &[Step]) -> String {
 /// A lookup of a name in the directory `node`, as the arguments of `compare replay`.
 pub fn lookup_arguments(image: &[u8], node: u64, name: &[u8]) -> String {
     format!("--image {} --node {node} --name {}", argument(image), argument(name))
+}
+
+/// A build into a buffer of `room` bytes, as the arguments of `compare replay`.
+pub fn build_arguments(
+    nodes: &[u8],
+    mounts: &[u8],
+    entries: &[u8],
+    text: &[u8],
+    room: u64,
+) -> String {
+    let [nodes, mounts, entries, text] = [nodes, mounts, entries, text].map(argument);
+    format!("--nodes {nodes} --mounts {mounts} --entries {entries} --text {text} --room {room}")
 }
 
 /// The bytes as one argument.
@@ -256,6 +318,11 @@ mod tests {
             (&lookup.asked, &lookup.expected[..]),
             (&Asked::Lookup(named), &[0, 5, 6, 1][..])
         );
+        let build = cases.iter().find(|case| case.name == "build-room-bench-317").unwrap();
+        assert_eq!((&build.image[..], &build.expected[..]), (&[][..], &[0, 0, 0, 316][..]));
+        let Asked::Build(asked) = &build.asked else { panic!("it is no build") };
+        assert_eq!(asked.text, b"../../lab/cal/tare/upoolooprunfdabs");
+        assert_eq!((asked.room, asked.written.len()), (317, 316));
     }
 
     /// A record of a kind over the image, with a number, and expected numbers from 1 on.
@@ -305,7 +372,7 @@ mod tests {
     #[test]
     fn a_sequence_that_is_wrong_is_refused() {
         // Without a start; an unknown kind; more numbers than a start has.
-        for kinds in [&[(5, 0, 7)][..], &[(3, 0, 2), (9, 0, 7)], &[(3, 0, 3)]] {
+        for kinds in [&[(5, 0, 7)][..], &[(3, 0, 2), (10, 0, 7)], &[(3, 0, 3)]] {
             assert!(read(&list_of(kinds)).is_err(), "{kinds:?}");
         }
         // A call over another image than its start's.
@@ -334,8 +401,9 @@ mod tests {
         assert_eq!(cases[2].asked, Asked::Sequence(vec![Step::Dup(0)]));
         assert_eq!(cases[3].asked, Asked::Lookup(Lookup { node: 0, name: Vec::new() }));
         assert_eq!(cases[3].to_string(), "--image 696d --node 0 --name ''");
-        // What only other kinds have: an open_how, a mark, a mount, a fifth number.
-        for (at, number) in [(24, 1), (36, 1), (40, 1), (56 + 16, 1)] {
+        // What only other kinds have: an open_how, a mark, a mount, a fifth number, a text, an
+        // image to be written.
+        for (at, number) in [(24, 1), (36, 1), (40, 1), (56 + 16, 1), (88, 1), (96, 1)] {
             let mut wrong = list.clone();
             set(&mut wrong, unnamed + at, 4, number);
             assert_eq!(read(&wrong).unwrap_err(), "case 3 is wrong or cut off", "{at}");
@@ -343,13 +411,50 @@ mod tests {
     }
 
     #[test]
+    fn a_build_has_its_parts() {
+        // The parts are the bytes `im` and `m`, `i`, `m`, nothing, and `im` to be written. The
+        // build leaves a sequence over `im` as it is.
+        let mut list = list_of(&[(3, 0, 2), (9, 1 << 16, 4), (5, 0, 7)]);
+        let (record, end) = (4 + RECORD, list.len());
+        for (part, from, length) in
+            [(12, end - 1, 1), (20, end - 2, 1), (84, end - 1, 1), (92, end - 2, 2)]
+        {
+            set(&mut list, record + part, 4, from);
+            set(&mut list, record + part + 4, 4, length);
+        }
+        let cases = read(&list).unwrap();
+        let [nodes, mounts, entries, text, written] =
+            [&b"im"[..], b"m", b"i", b"m", b"im"].map(<[u8]>::to_vec);
+        let build = Build { nodes, mounts, entries, text, room: 1 << 16, written };
+        assert_eq!(cases[1].asked, Asked::Build(build));
+        assert_eq!((&cases[1].image[..], &cases[1].expected[..]), (&[][..], &[1, 2, 3, 4][..]));
+        assert_eq!(
+            cases[1].to_string(),
+            "--nodes 696d --mounts 6d --entries 69 --text 6d --room 65536"
+        );
+        assert_eq!(cases[2].asked, Asked::Sequence(vec![Step::Dup(0)]));
+        // A mark, a node, a fifth number, and parts that reach outside.
+        let outside = [4, 12, 20, 84, 92].map(|part| (part + 4, end));
+        for (at, number) in [(36, 1), (48, 1), (52, 1), (56 + 16, 1)].into_iter().chain(outside) {
+            let mut wrong = list.clone();
+            set(&mut wrong, record + at, 4, number);
+            assert_eq!(read(&wrong).unwrap_err(), "case 1 is wrong or cut off", "{at}");
+        }
+        assert_eq!(
+            build_arguments(b"", b"", b"", b"", 0),
+            "--nodes '' --mounts '' --entries '' --text '' --room 0"
+        );
+    }
+
+    #[test]
     fn other_bytes_are_refused() {
         let list = list();
-        let wrong = [&[][..], &[1], &[0; 4], &[0; 4_000], &list[..87], &list[..list.len() - 1]];
+        let short = 4 + RECORD - 1;
+        let wrong = [&[][..], &[1], &[0; 4], &[0; 4_000], &list[..short], &list[..list.len() - 1]];
         for bytes in wrong {
             assert!(read(bytes).is_err(), "{} bytes", bytes.len());
         }
-        assert!(read(&[&list[..], &vec![0; 1 << 20]].concat()).is_err());
+        assert!(read(&[&list[..], &vec![0; MOST as usize]].concat()).is_err());
         let folder = env!("CARGO_MANIFEST_DIR");
         for file in [folder, &format!("{folder}/nothing"), &format!("{folder}/Cargo.toml")] {
             let fault = read_file(file).unwrap_err();

@@ -140,6 +140,32 @@ fn replies_are_written_whole_or_not_at_all() {
     }
 }
 
+/// With too little room for the answer no image is written either, and behind one nothing is.
+#[test]
+fn a_build_is_written_whole_or_not_at_all() {
+    let parts = Table::new(IMAGE).unwrap().parts();
+    let broken = Parts { text: b"", ..parts };
+    for (parts, room, answer) in [
+        (parts, 316, [0, 0, 0, 316]),
+        (parts, 400, [0, 0, 0, 316]),
+        (parts, 315, [34, 0, 0, 316]),
+        (parts, 0, [34, 0, 0, 316]),
+        (broken, 400, [117, 4, 4, 0]),
+        (broken, 0, [117, 4, 4, 0]),
+    ] {
+        writes_all_or_nothing(answer, |out, out_len| {
+            let mut buffer = [0xff; 400];
+            let to = (buffer.as_mut_ptr(), room);
+            let written = unsafe { build_to(&parts, to, (out, out_len)) };
+            let is_built = written > 0 && answer[0] == 0;
+            assert_eq!(check(&buffer[..316]) == [0, 0], is_built);
+            let untouched = if is_built { 316 } else { 0 };
+            assert!(buffer[untouched..].iter().all(|byte| *byte == 0xff));
+            written
+        });
+    }
+}
+
 /// With too little room for the verdict the descriptors are not written either.
 #[test]
 fn a_start_is_written_whole_or_not_at_all() {
@@ -158,17 +184,19 @@ fn a_start_is_written_whole_or_not_at_all() {
     assert_eq!(started().slots[1..], closed.slots[1..]);
 }
 
-/// Two numbers came later: who has room for the nine of the first version gets these.
+/// Three numbers came later: who has room for the nine of the first version gets these, who has
+/// room for the eleven of the second gets those.
 #[test]
 fn errnos_are_as_many_as_there_is_room_for() {
-    let numbers = [117, 7, 22, 36, 2, 9, 20, 40, 18, 24, 25];
+    let numbers = [117, 7, 22, 36, 2, 9, 20, 40, 18, 24, 25, 34];
     for out_len in 0..=ROOM {
         let mut out = [UNWRITTEN; ROOM];
         let written = unsafe { ventolaire_errnos(out.as_mut_ptr(), out_len) };
         let expected = match out_len {
             0..9 => 0,
             9..11 => 9,
-            _ => 11,
+            11 => 11,
+            _ => 12,
         };
         assert_eq!((written, &out[..written]), (expected, &numbers[..expected]));
         assert!(out[written..].iter().all(|&number| number == UNWRITTEN));
@@ -242,6 +270,32 @@ fn null_goes_with_no_bytes() {
     };
     assert_eq!(lookup(IMAGE.as_ptr(), IMAGE.len()), (4, [2, 0, 0, 2]));
     assert_eq!(lookup(null, 0), (4, [117, 0, 0, 0]));
+}
+
+/// Of the parts only the entries and the text may be empty in a tree that keeps the rules.
+#[test]
+fn null_goes_with_no_bytes_of_a_build() {
+    let (null, directory, mount) = (ptr::null(), [1, 0, 0, 0, 0, 0, 0, 0, 0, 0, 0, 0], [0; 8]);
+    let (mut buffer, mut out) = ([0xff; 40], [UNWRITTEN; 4]);
+    let mut build = |nodes: (*const u8, usize), mounts: (*const u8, usize), room: usize| {
+        let to = if room == 0 { ptr::null_mut() } else { buffer.as_mut_ptr() };
+        let (nodes, nodes_len) = nodes;
+        let (mounts, mounts_len) = mounts;
+        let answer = out.as_mut_ptr();
+        unsafe {
+            ventolaire_build(
+                nodes, nodes_len, mounts, mounts_len, null, 0, null, 0, to, room, answer, 4,
+            )
+        };
+        out
+    };
+    let (nodes, mounts) = ((directory.as_ptr(), 12), (mount.as_ptr(), 8));
+    assert_eq!(build((null, 0), (null, 0), 0), [117, 3, 0, 0]);
+    assert_eq!(build(nodes, (null, 0), 40), [117, 3, 0, 0]);
+    assert_eq!(build((null, 0), mounts, 40), [117, 3, 0, 0]);
+    assert_eq!(build(nodes, mounts, 0), [34, 0, 0, 40]);
+    assert_eq!(build(nodes, mounts, 40), [0, 0, 0, 40]);
+    assert_eq!(check(&buffer), [0, 0]);
 }
 
 #[test]

@@ -4,7 +4,7 @@
 //! that record, in their order, and the first that does not hold is the cause. So
 //! what is said is always true of the bytes read.
 
-use super::{entry_fields, long, mount_fields, node_fields, part, short, Parts};
+use super::{entry_fields, long, mount_fields, node_fields, part, short, Records};
 use crate::Broken;
 use core::cmp::Ordering;
 use core::fmt;
@@ -104,7 +104,7 @@ impl Broken {
     /// assert_eq!(broken.cause(b"PNG").to_string(), "the image has 3 bytes, not 20 to 65,536");
     /// ```
     pub fn cause(&self, image: &[u8]) -> Cause {
-        let parts = Parts::of(image);
+        let parts = Records::of(image);
         let found = match self.rule {
             1 => length(image),
             2 => signature(image),
@@ -173,7 +173,7 @@ fn counts(image: &[u8]) -> Option<Says> {
         })
 }
 
-impl<'a> Parts<'a> {
+impl<'a> Records<'a> {
     fn fields(self, node: u64) -> Option<[u64; 4]> {
         self.nodes.get(usize::try_from(node).ok()?).map(node_fields)
     }
@@ -218,7 +218,7 @@ impl<'a> Parts<'a> {
     }
 }
 
-fn node(parts: Parts, n: u64) -> Option<Says> {
+fn node(parts: Records, n: u64) -> Option<Says> {
     let Some([kind, parent, first, count]) = parts.fields(n) else {
         let (sum, entries) = (parts.held_below(n), parts.entries.len() as u64);
         let words = "the directories' counts sum to {}, and there are {} entries";
@@ -236,7 +236,7 @@ fn node(parts: Parts, n: u64) -> Option<Says> {
     }
 }
 
-fn directory(parts: Parts, n: u64, parent: u64, first: u64) -> Option<Says> {
+fn directory(parts: Records, n: u64, parent: u64, first: u64) -> Option<Says> {
     let held = parts.held_below(n);
     says(parent > n, "4.4b", "its parent is node {}, above its own number", [parent])
         .or_else(|| {
@@ -249,7 +249,7 @@ fn directory(parts: Parts, n: u64, parent: u64, first: u64) -> Option<Says> {
         })
 }
 
-fn body(parts: Parts, first: u64, count: u64) -> Option<Says> {
+fn body(parts: Records, first: u64, count: u64) -> Option<Says> {
     let (end, text) = (first + count, parts.text.len() as u64);
     says(!(1..=4_095).contains(&count), "4.4f", "its body has {} bytes, not 1 to 4,095", [count])
         .or_else(|| {
@@ -267,7 +267,7 @@ fn place_of(byte: u8, bytes: &[u8]) -> Option<u64> {
     bytes.iter().position(|&other| other == byte).map(|at| at as u64)
 }
 
-fn entry(parts: Parts, e: u64) -> Option<Says> {
+fn entry(parts: Records, e: u64) -> Option<Says> {
     let [offset, length, node] = entry_fields(parts.entries.get(usize::try_from(e).ok()?)?);
     let name = parts.name(e)?;
     let (end, text, nodes) = (offset + length, parts.text.len() as u64, parts.nodes.len() as u64);
@@ -289,7 +289,7 @@ fn entry(parts: Parts, e: u64) -> Option<Says> {
 }
 
 /// The names of a directory ascend.
-fn order(parts: Parts, e: u64, name: &[u8]) -> Option<Says> {
+fn order(parts: Records, e: u64, name: &[u8]) -> Option<Says> {
     let before = e.checked_sub(1)?;
     let holder = parts.holder(e)?;
     if parts.holder(before) != Some(holder) {
@@ -304,7 +304,7 @@ fn order(parts: Parts, e: u64, name: &[u8]) -> Option<Says> {
 }
 
 /// A directory is named in its parent alone, and a top nowhere.
-fn named_directory(parts: Parts, e: u64, node: u64) -> Option<Says> {
+fn named_directory(parts: Records, e: u64, node: u64) -> Option<Says> {
     let Some([1, parent, ..]) = parts.fields(node) else { return None };
     let holder = parts.holder(e)?;
     says(parent == node, "4.5f", "it names node {}, the top of a tree", [node]).or_else(|| {
@@ -313,7 +313,7 @@ fn named_directory(parts: Parts, e: u64, node: u64) -> Option<Says> {
     })
 }
 
-fn mount(parts: Parts, m: u64) -> Option<Says> {
+fn mount(parts: Records, m: u64) -> Option<Says> {
     let [root, parent, point, zero] = mount_fields(parts.mounts.get(usize::try_from(m).ok()?)?);
     says(!parts.is_directory(root), "4.6a", "its root is node {}, no directory", [root])
         .or_else(|| says(zero != 0, "4.6b", "its zero field is {}", [zero]))
@@ -331,7 +331,7 @@ fn mount(parts: Parts, m: u64) -> Option<Says> {
 }
 
 /// A mount's point is below the root of its parent.
-fn on(parts: Parts, parent: u64, point: u64) -> Option<Says> {
+fn on(parts: Records, parent: u64, point: u64) -> Option<Says> {
     let [root, ..] = mount_fields(parts.mounts.get(usize::try_from(parent).ok()?)?);
     let outside = "its point, node {}, is not under node {}, the root of mount {}";
     says(!parts.is_directory(point), "4.6e", "its point is node {}, no directory", [point])
@@ -343,7 +343,7 @@ fn on(parts: Parts, parent: u64, point: u64) -> Option<Says> {
 }
 
 /// Two mounts on one place.
-fn clash(parts: Parts, m: u64, parent: u64, point: u64) -> Option<Says> {
+fn clash(parts: Records, m: u64, parent: u64, point: u64) -> Option<Says> {
     let before = parts.mounts.iter().zip(0..m).skip(1);
     let mut others = before.map(|(record, other)| (mount_fields(record), other));
     let (_, other) = others.find(|([_, p, n, _], _)| (*p, *n) == (parent, point))?;
@@ -351,7 +351,7 @@ fn clash(parts: Parts, m: u64, parent: u64, point: u64) -> Option<Says> {
     says(true, "4.6f", words, [other, point, parent])
 }
 
-fn magic_link(parts: Parts, n: u64) -> Option<Says> {
+fn magic_link(parts: Records, n: u64) -> Option<Says> {
     let Some([4, _, mount, node]) = parts.fields(n) else { return None };
     let (mounts, nodes) = (parts.mounts.len() as u64, parts.nodes.len() as u64);
     let record = usize::try_from(mount).ok().and_then(|at| parts.mounts.get(at));

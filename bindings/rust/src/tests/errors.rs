@@ -18,6 +18,7 @@ fn errors_have_their_numbers() {
     let refusal = lookup(b"", 0, "lab").unwrap_err();
     is_error(&refusal);
     assert_eq!(NameRefusal::from(broken), refusal);
+    is_error(&Parts::default().build_into(&mut []).unwrap_err());
 }
 
 #[cfg(feature = "std")]
@@ -36,6 +37,12 @@ fn errors_become_those_of_std() {
     let refusal = table.lookup(12, "lab").unwrap_err();
     assert_eq!(Error::from(refusal).raw_os_error(), Some(9));
     assert_eq!(Error::from(check(b"").unwrap_err()).raw_os_error(), Some(117));
+    let parts = table.parts();
+    let short = parts.build_into(&mut []).unwrap_err();
+    assert_eq!(Error::from(short).raw_os_error(), Some(34));
+    let broken = Parts { text: b"", ..parts }.build().unwrap_err();
+    assert_eq!(Error::from(broken).raw_os_error(), Some(117));
+    assert_eq!(Error::from(BuildError::Other(Errno::EBADF)).raw_os_error(), Some(9));
     let odd = Error::from(Errno::Other(1 << 40));
     assert_eq!(
         (odd.raw_os_error(), odd.to_string().as_str()),

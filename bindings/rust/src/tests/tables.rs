@@ -1,7 +1,7 @@
 //! A checked table, and its records.
 
 use crate::bench_tree::IMAGE;
-use crate::records::Parts;
+use crate::records::Records;
 use crate::*;
 
 #[test]
@@ -106,10 +106,10 @@ fn readers_do_not_panic_on_any_bytes() {
         for byte in [0, 1, 3, 255] {
             let mut image = IMAGE[..len].to_vec();
             image.extend([byte; 40]);
-            let parts = Parts::of(&image);
+            let parts = Records::of(&image);
             let read = format!("{:?} {:?} {:?}", parts.nodes(), parts.entries(), parts.mounts());
             assert!(!read.is_empty());
         }
     }
-    assert_eq!(Parts::of(b"TOC1").nodes().len(), 0);
+    assert_eq!(Records::of(b"TOC1").nodes().len(), 0);
 }

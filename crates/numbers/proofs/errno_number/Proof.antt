@@ -15,7 +15,7 @@ errno-number-spec =
     tie.close
     (tie.spec
     (λ c. search needs) (λ c. search needs) (λ c. search needs) (λ c. search needs) (λ c. search needs) (λ c. search needs)
-    (λ c. search needs) (λ c. search needs) (λ c. search needs) (λ c. search needs) (λ c. search needs)
+    (λ c. search needs) (λ c. search needs) (λ c. search needs) (λ c. search needs) (λ c. search needs) (λ c. search needs)
     (λ c. arm (c .enum-told .given .1))
     (λ c. arm (c .enum-told2 .given .1))
     (λ c. arm (c .enum-told3 .given .1))
@@ -26,4 +26,5 @@ errno-number-spec =
     (λ c. arm (c .enum-told8 .given .1))
     (λ c. arm (c .enum-told9 .given .1))
     (λ c. arm (c .enum-told10 .given .1))
-    (λ c. arm (c .enum-told11 .given .1)))
+    (λ c. arm (c .enum-told11 .given .1))
+    (λ c. arm (c .enum-told12 .given .1)))

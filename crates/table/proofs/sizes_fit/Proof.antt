@@ -1,6 +1,8 @@
 -- `table::sizes_fit` meets its contract. Assumes nothing.
 use borrow.Author.Needs.{needs}
-use Rattle.table.proofs.WholeLaws.{no-nodes, many-nodes, no-mounts, many-mounts, many-entries, other-whole, by-length}
+use denote.Ref.{now}
+use native.Mathlib.Omega.{arith}
+use Rattle.table.proofs.WholeLaws.{counts-unfit, records-small, other-whole, by-length}
 use Rattle.table.proofs.sizes_fit.Statement.{statement}
 use Rattle.table.proofs.sizes_fit.Tie as tie
 
@@ -8,12 +10,15 @@ pub sizes-fit-spec : {M : Type 1} → statement M
 sizes-fit-spec =
     tie.close
     (tie.spec
-    (λ c. search (needs, no-nodes))
-    (λ c. search (needs, many-nodes))
-    (λ c. search (needs, no-mounts))
-    (λ c. search (needs, many-mounts))
-    (λ c. search (needs, many-entries))
-    (λ c. search needs) (λ c. search needs) (λ c. search needs) (λ c. search needs) (λ c. search needs)
-    (λ c. search needs) (λ c. search needs) (λ c κs. search needs)
-    (λ c. search (needs, other-whole))
-    (λ c. search (needs, by-length)))
+    (λ c κs. search needs)
+    (λ c. counts-unfit (now (c .before .before .before .args .image)) (c .before .before .before .pre .1) (c .before .counts-fit .ensures) (c .if1 .taken))
+    (λ c. record { fits = omega (arith, records-small (now (c .before .before .before .before .args .image)) (c .before .before .before .before .pre .1) (c .before .before .counts-fit .ensures) (c .before .if1 .left)) })
+    (λ c. record { fits = omega (arith, records-small (now (c .before .before .before .before .args .image)) (c .before .before .before .before .pre .1) (c .before .before .counts-fit .ensures) (c .before .if1 .left)) })
+    (λ c. record { fits = omega (arith, records-small (now (c .before .before .before .before .before .args .image)) (c .before .before .before .before .before .pre .1) (c .before .before .before .counts-fit .ensures) (c .before .before .if1 .left)) })
+    (λ c. record { fits = omega (arith, records-small (now (c .before .before .before .before .before .args .image)) (c .before .before .before .before .before .pre .1) (c .before .before .before .counts-fit .ensures) (c .before .before .if1 .left)) })
+    (λ c. record { fits = omega (arith, records-small (now (c .before .before .before .before .before .before .args .image)) (c .before .before .before .before .before .before .pre .1) (c .before .before .before .before .counts-fit .ensures) (c .before .before .before .if1 .left)) })
+    (λ c. record { fits = omega (arith, records-small (now (c .before .before .before .before .before .before .args .image)) (c .before .before .before .before .before .before .pre .1) (c .before .before .before .before .counts-fit .ensures) (c .before .before .before .if1 .left)) })
+    (λ c. record { fits = omega (arith, records-small (now (c .before .before .before .before .before .before .args .image)) (c .before .before .before .before .before .before .pre .1) (c .before .before .before .before .counts-fit .ensures) (c .before .before .before .if1 .left), c .before .before .before .before .before .before .pre .3) })
+    (λ c κs. search needs)
+    (λ c. other-whole (now (c .before .before .before .before .before .before .before .before .args .image)) (c .before .before .before .before .before .before .before .before .pre .1) (c .before .before .before .before .before .before .counts-fit .ensures) (c .before .before .before .before .before .before .before .before .pre .2) (c .before .u32-at .ensures .0) (c .if2 .taken))
+    (λ c. by-length (now (c .before .before .before .before .before .before .before .before .args .image)) (c .before .before .before .before .before .before .before .before .pre .1) (c .before .before .before .before .before .before .counts-fit .ensures) (c .before .before .before .before .before .before .before .before .pre .2) (c .before .u32-at .ensures .0) (c .before .before .before .before .before .if1 .left) (c .if2 .left)))

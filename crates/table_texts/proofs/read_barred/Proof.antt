@@ -4,7 +4,7 @@ use mathlib.Core.Path.{sym, _∙_}
 use native.Mathlib.Omega.{arith}
 use denote.Ref.{now}
 use Rattle.model.specs.Bytes.{part}
-use Rattle.table_texts.proofs.RecordLaws.{outside, inside}
+use Rattle.table_texts.proofs.RecordLaws.{outside, told-inside}
 use Rattle.table_texts.proofs.read_barred.Statement.{statement}
 use Rattle.table_texts.proofs.read_barred.Tie as tie
 
@@ -16,9 +16,20 @@ returns c =
 returns-2 : tie.Need-returns-2
 unfolding part
 returns-2 c =
-    let a = c .before .before .before .before .before .before .before .args in
-    let start = c .before .before .before .before .part-start .ensures .0 in
-    c .holds-barred .ensures ∙ sym (inside (a .names) (now (a .records)) (now (a .text)) (a .k) _ _ start (omega arith) (omega arith))
+    let d = c .before .before .before .before .before in
+    let a = d .before .before .before .args in
+    let start = d .part-start .ensures .0 in
+    c .holds-barred .ensures
+    ∙ sym (told-inside (a .names) (now (a .records)) (now (a .text)) (a .k) (c .before .if2 .taken) _ _ start (omega arith) (omega arith))
+
+returns-3 : tie.Need-returns-3
+unfolding part
+returns-3 c =
+    let d = c .before .before .before .before .before in
+    let a = d .before .before .before .args in
+    let start = d .part-start .ensures .0 in
+    c .body-holds .ensures
+    ∙ sym (told-inside (a .names) (now (a .records)) (now (a .text)) (a .k) (c .before .if2 .left) _ _ start (omega arith) (omega arith))
 
 pub read-barred-spec : {M : Type 1} → statement M
 read-barred-spec =
@@ -26,5 +37,8 @@ read-barred-spec =
     (tie.spec
     (λ c κs. search needs) (λ c κs. search needs) (λ c. search needs)
     returns
-    (λ c. search needs) (λ c. search needs) (λ c. search needs) (λ c κs. search needs)
-    returns-2)
+    (λ c. search needs) (λ c. search needs) (λ c. search needs)
+    (λ c κs. search needs)
+    returns-2
+    (λ c κs. search needs)
+    returns-3)

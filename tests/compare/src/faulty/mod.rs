@@ -1,12 +1,14 @@
 //! The resolver once more, in another shape and with room for faults.
 //!
 //! It reads every field from the image's bytes when it needs it, keeps
-//! the unread text as one run of bytes, packs a descriptor in one number, and
-//! finds a name by the halving that counts. With no fault planted it must agree
-//! with `resolver`, `descriptors` and `halving`, which checks both; with one of
-//! `faults` planted the comparison must find it, which checks the comparison and
+//! the unread text as one run of bytes, packs a descriptor in one number, finds a
+//! name by the halving that counts, and builds an image by copying all records and
+//! then setting the offsets in it. With no fault planted it must agree with
+//! `resolver`, `descriptors`, `halving` and `builder`, which checks both; with one
+//! of `faults` planted the comparison must find it, which checks the comparison and
 //! its inputs.
 
+mod build;
 mod descriptors;
 mod handle;
 mod how;
@@ -14,6 +16,7 @@ mod lookup;
 mod table;
 mod walk;
 
+pub use build::build;
 pub use descriptors::{act, start};
 pub use lookup::lookup;
 

@@ -129,7 +129,7 @@ impl<'a> Raw<'a> {
     }
 
     /// Rules 4 to 7.
-    fn rules(&self) -> Result<(), [u64; 2]> {
+    pub fn rules(&self) -> Result<(), [u64; 2]> {
         let owners = self.owners()?;
         if let Some(record) = (0..self.entries).find(|entry| self.bad_entry(*entry, &owners)) {
             let charged = self.has(Fault::EarlierName) && self.out_of_order(record, &owners);

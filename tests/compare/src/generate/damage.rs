@@ -69,6 +69,25 @@ fn longest(dice: &mut Dice, image: &mut Vec<u8>, layout: &Layout) {
     set(image, 16, 4, length);
 }
 
+/// A number near a limit in a field of a first, middle or last record of any kind.
+pub fn ended_field(dice: &mut Dice, image: &mut [u8]) {
+    let layout = Layout::of(image);
+    let mut one_of = |many: usize| dice.pick(&[0, many / 2, many.saturating_sub(1)]);
+    let [node, mount, entry] = [layout.nodes, layout.mounts, layout.entries].map(&mut one_of);
+    let (node, mount, entry) = (layout.node(node), layout.mount(mount), layout.entry(entry));
+    let nodes = [(node, 2), (node + 2, 2), (node + 4, 4), (node + 8, 4)];
+    let mounts = [0, 2, 4, 6].map(|field| (mount + field, 2));
+    let entries = [(entry, 4), (entry + 4, 2), (entry + 6, 2)];
+    let (at, width) = match dice.below(3) {
+        0 => dice.pick(&nodes),
+        1 => dice.pick(&mounts),
+        _ => dice.pick(&entries),
+    };
+    let record = if at < layout.mounts_at { 12 } else { 8 };
+    let number = near_a_limit(dice, image, &layout, &Field { at, width, record });
+    set(image, at, width, number);
+}
+
 /// A field: its offset, its width, and that of its records (0 in the header).
 struct Field {
     at: usize,

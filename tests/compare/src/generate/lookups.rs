@@ -52,7 +52,7 @@ fn throughout(dice: &mut Dice, table: &Table, most: usize) -> Vec<(u64, Vec<u8>)
 }
 
 /// A node and a name, over a table that is accepted or not.
-fn question(dice: &mut Dice, table: Option<&Table>) -> (u64, Vec<u8>) {
+pub fn question(dice: &mut Dice, table: Option<&Table>) -> (u64, Vec<u8>) {
     let Some(table) = table else {
         return (dice.pick(&[0, 0, 1, 4095, 4096, 1 << 16, u64::MAX]), odd(dice));
     };

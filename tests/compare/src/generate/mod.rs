@@ -1,9 +1,9 @@
 //! Seeded inputs: tables in many shapes, damage to them, calls, sequences of calls on
-//! descriptors, and lookups.
+//! descriptors, lookups, and builds.
 //!
 //! Most calls are meant to reach the walk and go on for several components,
 //! so paths are grown along the table with the resolver itself. A case is
-//! fixed by the seed, its stream (tables, calls, sequences or lookups) and its number.
+//! fixed by the seed, its stream (tables, calls, sequences, lookups or builds) and its number.
 //!
 //! A table begins with nodes (`nodes`), which are named (`names`), mounted
 //! (`mounts`) and given targets and bodies (`bodies`), with links that lead on and
@@ -11,8 +11,10 @@
 //! (`damage`). A call has an open_how (`hows`), a handle (`handles`) and a path
 //! (`paths`); so has each open of a sequence (`sequences`), its handle being a descriptor's.
 //! A lookup (`lookups`) is mostly about a table that has more names than others (`listings`).
+//! A build (`builds`) has the parts of a table, mostly with another text (`texts`).
 
 mod bodies;
+mod builds;
 mod calls;
 mod chains;
 mod damage;
@@ -29,10 +31,15 @@ mod sequences;
 mod tables;
 #[cfg(test)]
 mod tests;
+mod texts;
+
+pub use calls::call;
+pub use lookups::question;
+pub use texts::relaid;
 
 use crate::case::Case;
 use crate::resolver::accept;
-use calls::call;
+use builds::builds;
 use damage::damage;
 use data::dice::Dice;
 use lookups::lookups;
@@ -44,6 +51,7 @@ const TABLES_A_GROUP: u64 = 4;
 const CALLS_A_GROUP: u64 = 12;
 const SEQUENCES_A_GROUP: u64 = 1;
 const LOOKUPS_A_GROUP: u64 = 24;
+const BUILDS_A_GROUP: u64 = 6;
 
 /// Some checks of one table: as it is, and damaged.
 fn table_group(seed: u64, group: u64) -> Vec<Case> {
@@ -75,6 +83,12 @@ fn lookup_group(seed: u64, group: u64) -> Vec<Case> {
     lookups(&mut dice, LOOKUPS_A_GROUP as usize).into_iter().map(Case::Lookup).collect()
 }
 
+/// Some builds from one table.
+fn build_group(seed: u64, group: u64) -> Vec<Case> {
+    let mut dice = Dice::new(seed, 6, group);
+    builds(&mut dice, BUILDS_A_GROUP as usize).into_iter().map(Case::Build).collect()
+}
+
 /// The cases of a group, by the seed and its number.
 type Group = fn(u64, u64) -> Vec<Case>;
 
@@ -92,6 +106,7 @@ pub fn one(seed: u64, stream: &str, number: u64) -> Option<Case> {
         "call" => (call_group as Group, CALLS_A_GROUP),
         "sequence" => (sequence_group as Group, SEQUENCES_A_GROUP),
         "lookup" => (lookup_group as Group, LOOKUPS_A_GROUP),
+        "build" => (build_group as Group, BUILDS_A_GROUP),
         _ => return None,
     };
     group(seed, number / many).into_iter().nth((number % many) as usize)
@@ -104,12 +119,13 @@ pub struct Wanted {
     pub calls: u64,
     pub sequences: u64,
     pub lookups: u64,
+    pub builds: u64,
 }
 
 /// All the cases of a run, a group of each stream in turn.
 pub struct Cases {
     seed: u64,
-    streams: [Stream; 4],
+    streams: [Stream; 5],
     ready: VecDeque<Numbered>,
 }
 
@@ -146,6 +162,7 @@ impl Cases {
             stream("call", call_group, CALLS_A_GROUP, wanted.calls),
             stream("sequence", sequence_group, SEQUENCES_A_GROUP, wanted.sequences),
             stream("lookup", lookup_group, LOOKUPS_A_GROUP, wanted.lookups),
+            stream("build", build_group, BUILDS_A_GROUP, wanted.builds),
         ];
         Cases { seed, streams, ready: VecDeque::new() }
     }

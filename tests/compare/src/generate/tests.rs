@@ -1,14 +1,18 @@
 use super::*;
+use crate::builder::{Parts, LONGEST_IMAGE};
 use crate::faults::Fault;
-use crate::resolver::{Entry, DIRECTORY};
+use crate::resolver::{Entry, DIRECTORY, LINK};
 use crate::stats::Stats;
 use crate::subject::Planted;
 use crate::tree;
+use data::fields::Layout;
+use data::image::Tree;
 
 #[test]
 fn the_two_shapes_agree_and_all_occurs() {
     let mut stats = Stats::default();
-    let wanted = Wanted { tables: 3_000, calls: 9_000, sequences: 500, lookups: 3_000 };
+    let wanted =
+        Wanted { tables: 3_000, calls: 9_000, sequences: 500, lookups: 3_000, builds: 6_000 };
     for numbered in Cases::new(5, wanted) {
         let alike = numbered.case.compare(&mut Planted(None));
         match alike {
@@ -21,24 +25,26 @@ fn the_two_shapes_agree_and_all_occurs() {
 
 #[test]
 fn a_case_stands_by_itself() {
-    let wanted = Wanted { tables: 50, calls: 100, sequences: 20, lookups: 100 };
+    let wanted = Wanted { tables: 50, calls: 100, sequences: 20, lookups: 100, builds: 50 };
     for numbered in Cases::new(9, wanted) {
         let again = one(9, numbered.stream, numbered.number);
         assert!(again == Some(numbered.case));
     }
-    let few = Wanted { tables: 3, calls: 5, sequences: 2, lookups: 7 };
-    assert_eq!(Cases::new(9, few).count(), 17);
+    let few = Wanted { tables: 3, calls: 5, sequences: 2, lookups: 7, builds: 4 };
+    assert_eq!(Cases::new(9, few).count(), 21);
 }
 
 #[test]
 fn faults_are_found() {
-    let wanted = Wanted { tables: 1_000, calls: 3_000, sequences: 300, lookups: 3_000 };
+    let wanted =
+        Wanted { tables: 1_000, calls: 3_000, sequences: 300, lookups: 3_000, builds: 1_000 };
     for fault in [
         Fault::RootsParent,
         Fault::UnknownLow32,
         Fault::SumAtLast,
         Fault::MarkShared,
         Fault::LaterMiddle,
+        Fault::BodiesFirst,
     ] {
         let mut subject = Planted(Some(fault));
         let mut cases = Cases::new(1, wanted);
@@ -109,6 +115,96 @@ fn faults_of_lookups_are_found_by_answers_alone() {
         };
         let mut cases = Cases::new(2, Wanted { lookups: 3_000, ..Wanted::default() });
         assert!(cases.any(|numbered| differs(numbered.case)), "{fault:?}");
+    }
+}
+
+/// What is asked of a written image aside; but a text that was changed shows in no answer.
+#[test]
+fn faults_of_builds_are_found_by_answers_alone() {
+    for fault in Fault::ALL.iter().filter(|fault| fault.is_of_builds()) {
+        let mut subject = Planted(Some(*fault));
+        let mut differs = |case| match case {
+            Case::Build(build) => {
+                let built = build.expected();
+                let (got, untouched) = build.got(&mut subject, &built.image);
+                got != built.numbers || (*fault == Fault::TouchedText && !untouched)
+            }
+            _ => false,
+        };
+        let mut cases = Cases::new(2, Wanted { builds: 3_000, ..Wanted::default() });
+        assert!(cases.any(|numbered| differs(numbered.case)), "{fault:?}");
+    }
+}
+
+/// Every field of the first, a middle and the last record of each kind.
+#[test]
+fn every_field_is_spoiled() {
+    let (mut tree, top) = Tree::mounted();
+    for name in ["a", "b", "c"] {
+        let directory = tree.named_directory(top, name);
+        tree.mount(top, 0, directory);
+    }
+    let image = tree.image();
+    let layout = Layout::of(&image);
+    let node = |number| [0, 2, 4, 8].map(|field| layout.node(number) + field).to_vec();
+    let mount = |number| [0, 2, 4, 6].map(|field| layout.mount(number) + field).to_vec();
+    let entry = |number| [0, 4, 6].map(|field| layout.entry(number) + field).to_vec();
+    let records = [[0, 2, 3].map(node), [0, 2, 3].map(mount), [0, 1, 2].map(entry)];
+    let mut missing = records.concat().concat();
+    assert_eq!((missing.len(), layout.entries), (33, 3));
+    for number in 0..3_000 {
+        let mut spoiled = image.clone();
+        damage::ended_field(&mut Dice::new(8, 7, number), &mut spoiled);
+        let changed = image.iter().zip(&spoiled).position(|(one, two)| one != two);
+        missing.retain(|at| changed != Some(*at));
+    }
+    assert_eq!(missing, []);
+}
+
+/// Texts as a caller may lay them, of trees that are written.
+#[test]
+fn texts_of_every_kind_are_built() {
+    let kinds = "shared overlapping inside gap leading trailing backwards unnamed high \
+                 far long empty name-and-body";
+    let mut missing: Vec<&str> = kinds.split_whitespace().collect();
+    for numbered in Cases::new(6, Wanted { builds: 3_000, ..Wanted::default() }) {
+        let Case::Build(build) = numbered.case else { continue };
+        if build.expected().numbers[0] != 0 {
+            continue;
+        }
+        missing.retain(|kind| !is_laid(kind, &build.parts));
+    }
+    assert_eq!(missing, Vec::<&str>::new());
+}
+
+/// Whether names and bodies of parts are laid in this way.
+fn is_laid(kind: &str, parts: &Parts) -> bool {
+    let tree = parts.table();
+    let links = || (0..).zip(&tree.nodes).filter(|(_, node)| node.kind == LINK);
+    let names: Vec<(u64, u64)> =
+        tree.entries.iter().map(|entry| (entry.offset, entry.offset + entry.length)).collect();
+    let bodies: Vec<(u64, u64)> =
+        links().map(|(_, link)| (link.first, link.first + link.count)).collect();
+    let mut all = [&names[..], &bodies].concat();
+    all.sort();
+    let end = all.iter().map(|(_, end)| *end).max().unwrap_or(0);
+    let beside =
+        |is_so: fn((u64, u64), (u64, u64)) -> bool| all.windows(2).any(|two| is_so(two[0], two[1]));
+    let text = parts.text.len() as u64;
+    match kind {
+        "shared" => beside(|one, two| one == two),
+        "overlapping" => beside(|one, two| one.0 < two.0 && two.0 < one.1 && one.1 < two.1),
+        "inside" => beside(|one, two| one.0 < two.0 && two.1 < one.1),
+        "gap" => beside(|one, two| one.1 < two.0),
+        "leading" => all.first().is_some_and(|(start, _)| *start > 0),
+        "trailing" => !all.is_empty() && end < text,
+        "backwards" => names.len() > 2 && names.windows(2).all(|two| two[0] > two[1]),
+        "unnamed" => links().any(|(link, _)| tree.entries.iter().all(|entry| entry.node != link)),
+        "high" => names.iter().map(|(start, end)| end - start).sum::<u64>() > 1 << 15,
+        "far" => all.last().is_some_and(|(start, _)| *start > 0xFFFF),
+        "long" => text > LONGEST_IMAGE,
+        "empty" => text == 0,
+        _ => names.iter().any(|name| bodies.contains(name)),
     }
 }
 

@@ -1,6 +1,7 @@
 //! That the comparison sees what a subject must not do, besides answering otherwise.
 
 use super::*;
+use crate::builder::Parts;
 use crate::subject::{Handle, Lent, Planted, Slots};
 use data::sequence::Step;
 use data::BENCH_TREE;
@@ -59,6 +60,10 @@ impl Subject for Slipping {
             _ => {}
         }
         answer
+    }
+
+    fn build(&mut self, parts: &mut Parts, buffer: &mut [u8], room: usize) -> Vec<u64> {
+        Planted(Option::None).build(parts, buffer, room)
     }
 }
 

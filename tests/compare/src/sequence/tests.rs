@@ -1,6 +1,7 @@
 //! That the comparison sees what a subject must not do, besides answering otherwise.
 
 use super::*;
+use crate::builder::Parts;
 use crate::subject::{Handle, Lent, Planted};
 use data::{how, BENCH_TREE};
 
@@ -125,6 +126,10 @@ impl Subject for Slipping {
 
     fn lookup(&mut self, image: &mut [u8], node: u64, name: &mut [u8], way: Way) -> Vec<u64> {
         Planted(None).lookup(image, node, name, way)
+    }
+
+    fn build(&mut self, parts: &mut Parts, buffer: &mut [u8], room: usize) -> Vec<u64> {
+        Planted(None).build(parts, buffer, room)
     }
 }
 

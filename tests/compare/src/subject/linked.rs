@@ -2,16 +2,17 @@
 //!
 //! Every pointer handed over goes with the length of its allocation, which lives through
 //! the call. The pointers come from mutable borrows, so even a write through them would be
-//! seen and not undefined; the output and the slots have room behind what is offered, for
-//! the same reason.
+//! seen and not undefined; the output, the slots and the buffer have room behind what is
+//! offered, for the same reason.
 
 use super::{Handle, Lent, Slots, Subject, Way};
+use crate::builder::Parts;
 use crate::descriptors::SLOTS;
 use data::sequence::{Open, Step};
 use ventolaire_sys::{
-    ventolaire_check, ventolaire_close, ventolaire_descriptors, ventolaire_dup, ventolaire_lookup,
-    ventolaire_lookup_accepted, ventolaire_open, ventolaire_open_accepted, ventolaire_resolve,
-    ventolaire_set_mark, ventolaire_start, ventolaire_start_accepted,
+    ventolaire_build, ventolaire_check, ventolaire_close, ventolaire_descriptors, ventolaire_dup,
+    ventolaire_lookup, ventolaire_lookup_accepted, ventolaire_open, ventolaire_open_accepted,
+    ventolaire_resolve, ventolaire_set_mark, ventolaire_start, ventolaire_start_accepted,
 };
 // It is this crate that has the library linked.
 use ventolaire as _;
@@ -47,6 +48,24 @@ fn lend<T>(slots: &mut Slots, call: impl FnOnce(*mut ventolaire_descriptors) -> 
         slots.copy_from_slice(&lent[inside]);
     } else {
         slots.fill(UNTOUCHED);
+    }
+    given
+}
+
+/// Bytes before and behind the buffer that are none of it.
+const AROUND: usize = 64;
+const UNTOUCHED_BYTE: u8 = 0xA5;
+
+/// Lends a copy of the buffer with something before and behind, and takes it back. What was
+/// written beside it shows as a buffer of which every byte is another.
+fn lend_buffer<T>(buffer: &mut [u8], call: impl FnOnce(*mut u8) -> T) -> T {
+    let around = [UNTOUCHED_BYTE; AROUND];
+    let mut lent = [&around[..], buffer, &around].concat();
+    let given = call(lent.as_mut_ptr().wrapping_add(AROUND));
+    if lent.starts_with(&around) && lent.ends_with(&around) {
+        buffer.copy_from_slice(&lent[AROUND..AROUND + buffer.len()]);
+    } else {
+        buffer.iter_mut().for_each(|byte| *byte = !*byte);
     }
     given
 }
@@ -128,6 +147,30 @@ impl Subject for Linked {
             function(image, len, node, name.as_mut_ptr(), name.len(), out.as_mut_ptr(), way.room)
         };
         written(&out, way.room, count)
+    }
+
+    fn build(&mut self, parts: &mut Parts, buffer: &mut [u8], room: usize) -> Vec<u64> {
+        let Parts { nodes, mounts, entries, text } = parts;
+        let mut out = [UNTOUCHED; ROOM];
+        let length = buffer.len();
+        // SAFETY: as said above.
+        let count = lend_buffer(buffer, |buffer| unsafe {
+            ventolaire_build(
+                nodes.as_mut_ptr(),
+                nodes.len(),
+                mounts.as_mut_ptr(),
+                mounts.len(),
+                entries.as_mut_ptr(),
+                entries.len(),
+                text.as_mut_ptr(),
+                text.len(),
+                buffer,
+                length,
+                out.as_mut_ptr(),
+                room,
+            )
+        });
+        written(&out, room, count)
     }
 }
 

@@ -1,0 +1,22 @@
+-- `cases::holds` is safe and ends.
+-- Assumes nothing.
+use Prim.Native.Nat.{_≤_, _-_}
+use lib.ListN.{length}
+use borrow.Author.Needs.{needs}
+use Rattle.cases.proofs.holds.Statement.{statement}
+use Rattle.cases.proofs.holds.Tie as tie
+
+abbrev Inv-loop : tie.InvT-loop
+Inv-loop buffer image i₀ i = i ≤ length buffer
+
+abbrev μ-loop : tie.MeasureT-loop
+μ-loop buffer image i₀ i = length buffer - i
+
+pub holds-spec : {M : Type 1} → statement M
+holds-spec =
+    tie.close
+    (tie.spec
+    Inv-loop
+    μ-loop
+    (λ c. search needs) (λ c. search needs) (λ c. search needs) (λ c. search needs)
+    (λ c. search needs) (λ c. search needs) (λ c. search needs) (λ c. search needs))

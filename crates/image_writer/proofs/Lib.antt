@@ -1,0 +1,6 @@
+mod FieldLaws
+mod LinkLaws
+mod CopyLaws
+mod JoinLaws
+mod TextLaws
+mod ImageLaws
