@@ -26,5 +26,7 @@ bodies-length-spec =
     (λ c. search needs)
     (λ c. search needs)
     (λ c. search needs)
-    (λ c. summed-on (c .before .before .before .loop .inv) (c .before .if1 .taken) (c .body-length .ensures .0 (c .before .before .before .before .before .args .c)) (le-of-lt (c .body-length .ensures .1)))
+    (λ c.
+    summed-on (c .before .before .before .loop .inv) (c .before .if1 .taken) (c .body-length .ensures .0 (c .before .before .before .before .before .args .c))
+    (le-of-lt (c .body-length .ensures .1)))
     (λ c. summed-all (c .before .before .loop .inv) (c .if1 .left)))

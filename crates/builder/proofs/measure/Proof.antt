@@ -20,4 +20,6 @@ measure-spec =
     (λ c. search needs)
     (λ c. search needs)
     (λ c. search needs)
-    (λ c. let a = c .before .before .before .before .before .before .before .args in measured (a .c) (now (a .nodes)) (now (a .entries)) (c .before .before .before .before .names-length .ensures .0) (c .before .before .before .bodies-length .ensures .0) refl))
+    (λ c.
+    let a = c .before .before .before .before .before .before .before .args in
+    measured (a .c) (now (a .nodes)) (now (a .entries)) (c .before .before .before .before .names-length .ensures .0) (c .before .before .before .bodies-length .ensures .0) refl))

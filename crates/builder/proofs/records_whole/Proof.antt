@@ -12,7 +12,16 @@ records-whole-spec =
     (tie.spec
     (λ c. let a = c .before .args in record { fits = omega (arith, n-is (now (a .nodes)) (now (a .mounts)) (now (a .entries)) (c .before .pre), c .before .good) })
     (λ c. let a = c .before .before .args in λ text. nodes-cut (now (a .nodes)) (now (a .mounts)) (now (a .entries)) (c .before .before .pre) text (c .if1 .taken))
-    (λ c. let a = c .before .before .before .args in record { fits = omega (arith, m-is (now (a .nodes)) (now (a .mounts)) (now (a .entries)) (c .before .before .before .pre), c .before .before .before .good) })
+    (λ c.
+    let start = c .before .before .before in
+    let a = start .args in
+    record { fits = omega (arith, m-is (now (a .nodes)) (now (a .mounts)) (now (a .entries)) (start .pre), start .good) })
     (λ c. let a = c .before .before .before .before .args in λ text. mounts-cut (now (a .nodes)) (now (a .mounts)) (now (a .entries)) (c .before .before .before .before .pre) text (c .if2 .taken))
-    (λ c. let a = c .before .before .before .before .before .args in record { fits = omega (arith, e-is (now (a .nodes)) (now (a .mounts)) (now (a .entries)) (c .before .before .before .before .before .pre), c .before .before .before .before .before .good) })
-    (λ c. let a = c .before .before .before .before .before .args in λ text. by-entries-whole (now (a .nodes)) (now (a .mounts)) (now (a .entries)) (c .before .before .before .before .before .pre) text (c .before .before .before .if1 .left) (c .before .if2 .left)))
+    (λ c.
+    let start = c .before .before .before .before .before in
+    let a = start .args in
+    record { fits = omega (arith, e-is (now (a .nodes)) (now (a .mounts)) (now (a .entries)) (start .pre), start .good) })
+    (λ c.
+    let start = c .before .before .before .before .before in
+    let a = start .args in
+    λ text. by-entries-whole (now (a .nodes)) (now (a .mounts)) (now (a .entries)) (start .pre) text (c .before .before .before .if1 .left) (c .before .if2 .left)))

@@ -22,13 +22,56 @@ put-bodies-spec =
     (tie.spec
     Inv-loop
     μ-loop
-    (λ c. let a = c .before .before .before .args in let s = now (a .nodes) in let x = now (a .text) in let t = nodesTree (a .c) s x in texts-none (bodyBytes t) (bodyLength t) (a .c .nodes) (a .from) (c .before .before .before .pre .2))
+    (λ c.
+    let start = c .before .before .before in
+    let a = start .args in
+    let s = now (a .nodes) in
+    let x = now (a .text) in
+    let t = nodesTree (a .c) s x in
+    texts-none (bodyBytes t) (bodyLength t) (a .c .nodes) (a .from) (start .pre .2))
     (λ c κs. (search needs, c .before .before .before .before .before .before .before .pre .1 .body-inside _ (c .before .if1 .taken)))
-    (λ c κs. let a = c .before .before .before .before .before .before .before .before .args in let s = now (a .nodes) in let x = now (a .text) in let t = nodesTree (a .c) s x in texts-room (bodyBytes t) (bodyLength t) (a .c .nodes) (a .from) (c .before .before .before .before .before .before .before .before .pre .2) (c .before .before .before .before .loop .inv) (c .before .before .if1 .taken) (c .body-of .ensures (a .c)) (body-long (a .c) s x (c .before .before .before .before .before .before .before .before .pre .1) _ (c .before .before .if1 .taken)))
+    (λ c κs.
+    let start = c .before .before .before .before .before .before .before .before in
+    let a = start .args in
+    let s = now (a .nodes) in
+    let x = now (a .text) in
+    let t = nodesTree (a .c) s x in
+    texts-room (bodyBytes t) (bodyLength t) (a .c .nodes) (a .from) (start .pre .2) (c .before .before .before .before .loop .inv) (c .before .before .if1 .taken)
+    (c .body-of .ensures (a .c)) (body-long (a .c) s x (start .pre .1) _ (c .before .before .if1 .taken)))
     (λ c κs. search needs)
-    (λ c. let a = c .before .before .before .before .before .before .before .before .before .before .before .before .args in let s = now (a .nodes) in let x = now (a .text) in let t = nodesTree (a .c) s x in record { fits = omega (arith, texts-next (bodyBytes t) (bodyLength t) (a .c .nodes) (a .from) (c .before .before .before .before .before .before .before .before .before .before .before .before .pre .2) (c .before .before .before .before .before .before .before .before .loop .inv) (c .before .before .before .before .before .before .if1 .taken) (body-length-is (a .c) s x _ (c .body-length .ensures)), c .before .before .before .before .before .before .before .before .before .before .before .before .good) })
+    (λ c.
+    let start = c .before .before .before .before .before .before .before .before .before .before .before .before in
+    let a = start .args in
+    let s = now (a .nodes) in
+    let x = now (a .text) in
+    let t = nodesTree (a .c) s x in
+    let next =
+    texts-next (bodyBytes t) (bodyLength t) (a .c .nodes) (a .from) (start .pre .2) (c .before .before .before .before .before .before .before .before .loop .inv)
+    (c .before .before .before .before .before .before .if1 .taken) (body-length-is (a .c) s x _ (c .body-length .ensures)) in
+    record { fits = omega (arith, next, start .good) })
     (λ c. search needs)
     (λ c. search needs)
-    (λ c. let a = c .before .before .before .before .before .before .before .before .before .before .before .before .args in let s = now (a .nodes) in let x = now (a .text) in let t = nodesTree (a .c) s x in texts-on (bodyBytes t) (bodyLength t) (a .c .nodes) (a .from) (c .before .before .before .before .before .before .before .before .before .before .before .before .pre .2) (c .before .before .before .before .before .before .before .before .loop .inv) (c .before .before .before .before .before .before .if1 .taken) (c .before .before .before .before .body-of .ensures (a .c)) (body-long (a .c) s x (c .before .before .before .before .before .before .before .before .before .before .before .before .pre .1) _ (c .before .before .before .before .before .before .if1 .taken)) (c .before .before .before .lay .ensures) (body-length-is (a .c) s x _ (c .body-length .ensures)))
-    (λ c. let a = c .before .before .before .before .before .before .args in let s = now (a .nodes) in let x = now (a .text) in let t = nodesTree (a .c) s x in texts-end (bodyBytes t) (bodyLength t) (a .c .nodes) (a .from) (c .before .before .before .before .before .before .pre .2) (c .before .before .loop .inv) (c .if1 .left))
-    (λ c. let a = c .before .before .before .before .before .before .args in let s = now (a .nodes) in let x = now (a .text) in let t = nodesTree (a .c) s x in texts-all (bodyBytes t) (bodyLength t) (a .c .nodes) (a .from) (c .before .before .before .before .before .before .pre .2) (c .before .before .loop .inv) (c .if1 .left)))
+    (λ c.
+    let start = c .before .before .before .before .before .before .before .before .before .before .before .before in
+    let a = start .args in
+    let s = now (a .nodes) in
+    let x = now (a .text) in
+    let t = nodesTree (a .c) s x in
+    texts-on (bodyBytes t) (bodyLength t) (a .c .nodes) (a .from) (start .pre .2) (c .before .before .before .before .before .before .before .before .loop .inv)
+    (c .before .before .before .before .before .before .if1 .taken) (c .before .before .before .before .body-of .ensures (a .c))
+    (body-long (a .c) s x (start .pre .1) _ (c .before .before .before .before .before .before .if1 .taken)) (c .before .before .before .lay .ensures)
+    (body-length-is (a .c) s x _ (c .body-length .ensures)))
+    (λ c.
+    let start = c .before .before .before .before .before .before in
+    let a = start .args in
+    let s = now (a .nodes) in
+    let x = now (a .text) in
+    let t = nodesTree (a .c) s x in
+    texts-end (bodyBytes t) (bodyLength t) (a .c .nodes) (a .from) (start .pre .2) (c .before .before .loop .inv) (c .if1 .left))
+    (λ c.
+    let start = c .before .before .before .before .before .before in
+    let a = start .args in
+    let s = now (a .nodes) in
+    let x = now (a .text) in
+    let t = nodesTree (a .c) s x in
+    texts-all (bodyBytes t) (bodyLength t) (a .c .nodes) (a .from) (start .pre .2) (c .before .before .loop .inv) (c .if1 .left)))

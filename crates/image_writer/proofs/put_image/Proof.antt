@@ -36,14 +36,36 @@ put-image-spec =
     (λ c κs. let fit = c .before .before .before .before .before .before .before .before .before .before .pre in (fit .node-records, omega (arith, all-fits fit), names-few fit))
     (λ c. search needs)
     (λ c. search needs)
-    (λ c κs. let fit = c .before .before .before .before .before .before .before .before .before .before .before .before .before .before .before .pre in (fit .mount-records, omega (arith, all-fits fit)))
+    (λ c κs.
+    let fit = c .before .before .before .before .before .before .before .before .before .before .before .before .before .before .before .pre in
+    (fit .mount-records, omega (arith, all-fits fit)))
     (λ c. search needs)
     (λ c. search needs)
-    (λ c κs. let fit = c .before .before .before .before .before .before .before .before .before .before .before .before .before .before .before .before .before .before .before .before .pre in (fit .entry-records, omega (arith, all-fits fit)))
+    (λ c κs.
+    let fit =
+    c .before .before .before .before .before .before .before .before .before .before
+    .before .before .before .before .before .before .before .before .before .before .pre in
+    (fit .entry-records, omega (arith, all-fits fit)))
     (λ c. search needs)
-    (λ c. let fit = c .before .before .before .before .before .before .before .before .before .before .before .before .before .before .before .before .before .before .before .before .before .before .before .before .pre in record { fits = omega (arith, bodies-begin fit) })
-    (λ c κs. let fit = c .before .before .before .before .before .before .before .before .before .before .before .before .before .before .before .before .before .before .before .before .before .before .before .before .before .pre in (fit .entry-records, fit .names-inside, omega (arith, all-fits fit)))
-    (λ c. let fit = c .before .before .before .before .before .before .before .before .before .before .before .before .before .before .before .before .before .before .before .before .before .before .before .before .before .before .before .before .before .before .pre in record { fits = omega (arith, bodies-begin fit) })
-    (λ c κs. let fit = c .before .before .before .before .before .before .before .before .before .before .before .before .before .before .before .before .before .before .before .before .before .before .before .before .before .before .before .before .before .before .pre in (fit .node-records, fit .bodies-inside, omega (arith, all-fits fit, names-sum fit)))
+    (λ c.
+    let fit =
+    c .before .before .before .before .before .before .before .before .before .before .before .before
+    .before .before .before .before .before .before .before .before .before .before .before .before .pre in
+    record { fits = omega (arith, bodies-begin fit) })
+    (λ c κs.
+    let fit =
+    c .before .before .before .before .before .before .before .before .before .before .before .before
+    .before .before .before .before .before .before .before .before .before .before .before .before .before .pre in
+    (fit .entry-records, fit .names-inside, omega (arith, all-fits fit)))
+    (λ c.
+    let fit =
+    c .before .before .before .before .before .before .before .before .before .before .before .before .before .before .before
+    .before .before .before .before .before .before .before .before .before .before .before .before .before .before .before .pre in
+    record { fits = omega (arith, bodies-begin fit) })  -- the bodies' place
+    (λ c κs.
+    let fit =
+    c .before .before .before .before .before .before .before .before .before .before .before .before .before .before .before
+    .before .before .before .before .before .before .before .before .before .before .before .before .before .before .before .pre in
+    (fit .node-records, fit .bodies-inside, omega (arith, all-fits fit, names-sum fit)))
     same-length
     returns)

@@ -12,4 +12,8 @@ put-mounts-spec =
     (tie.spec
     (λ c κs. search needs)
     (λ c. search needs)
-    (λ c. let a = c .before .before .before .before .before .before .args in mounts-laid (now (a .mounts)) (λ i. omega (arith, c .before .before .before .before .shared-slice-known .given i)) (now (a .out)) (a .from) (a .c) (c .before .before .before .before .before .before .pre .0) (c .before .before .lay .ensures)))
+    (λ c.
+    let start = c .before .before .before .before .before .before in
+    let a = start .args in
+    mounts-laid (now (a .mounts)) (λ i. omega (arith, c .before .before .before .before .shared-slice-known .given i)) (now (a .out)) (a .from) (a .c) (start .pre .0)
+    (c .before .before .lay .ensures)))

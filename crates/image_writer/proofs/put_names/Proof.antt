@@ -21,13 +21,49 @@ put-names-spec =
     (tie.spec
     Inv-loop
     μ-loop
-    (λ c. let a = c .before .before .before .args in let s = now (a .entries) in let x = now (a .text) in texts-none (nameIn s x) (nameLengthIn s) (a .c .entries) (a .from) (c .before .before .before .pre .2))
+    (λ c.
+    let start = c .before .before .before in
+    let a = start .args in
+    let s = now (a .entries) in
+    let x = now (a .text) in
+    texts-none (nameIn s x) (nameLengthIn s) (a .c .entries) (a .from) (start .pre .2))
     (λ c κs. (search needs, c .before .before .before .before .before .before .before .pre .1 .name-inside _ (c .before .if1 .taken)))
-    (λ c κs. let a = c .before .before .before .before .before .before .before .before .args in let s = now (a .entries) in let x = now (a .text) in texts-room (nameIn s x) (nameLengthIn s) (a .c .entries) (a .from) (c .before .before .before .before .before .before .before .before .pre .2) (c .before .before .before .before .loop .inv) (c .before .before .if1 .taken) (c .name .ensures) (name-long (a .c) s x (c .before .before .before .before .before .before .before .before .pre .1) _ (c .before .before .if1 .taken)))
+    (λ c κs.
+    let start = c .before .before .before .before .before .before .before .before in
+    let a = start .args in
+    let s = now (a .entries) in
+    let x = now (a .text) in
+    texts-room (nameIn s x) (nameLengthIn s) (a .c .entries) (a .from) (start .pre .2) (c .before .before .before .before .loop .inv) (c .before .before .if1 .taken)
+    (c .name .ensures) (name-long (a .c) s x (start .pre .1) _ (c .before .before .if1 .taken)))
     (λ c κs. search needs)
-    (λ c. let a = c .before .before .before .before .before .before .before .before .before .before .before .before .args in let s = now (a .entries) in let x = now (a .text) in record { fits = omega (arith, texts-next (nameIn s x) (nameLengthIn s) (a .c .entries) (a .from) (c .before .before .before .before .before .before .before .before .before .before .before .before .pre .2) (c .before .before .before .before .before .before .before .before .loop .inv) (c .before .before .before .before .before .before .if1 .taken) (c .name-length .ensures .0), c .before .before .before .before .before .before .before .before .before .before .before .before .good) })
+    (λ c.
+    let start = c .before .before .before .before .before .before .before .before .before .before .before .before in
+    let a = start .args in
+    let s = now (a .entries) in
+    let x = now (a .text) in
+    let next =
+    texts-next (nameIn s x) (nameLengthIn s) (a .c .entries) (a .from) (start .pre .2) (c .before .before .before .before .before .before .before .before .loop .inv)
+    (c .before .before .before .before .before .before .if1 .taken) (c .name-length .ensures .0) in
+    record { fits = omega (arith, next, start .good) })
     (λ c. search needs)
     (λ c. search needs)
-    (λ c. let a = c .before .before .before .before .before .before .before .before .before .before .before .before .args in let s = now (a .entries) in let x = now (a .text) in texts-on (nameIn s x) (nameLengthIn s) (a .c .entries) (a .from) (c .before .before .before .before .before .before .before .before .before .before .before .before .pre .2) (c .before .before .before .before .before .before .before .before .loop .inv) (c .before .before .before .before .before .before .if1 .taken) (c .before .before .before .before .name .ensures) (name-long (a .c) s x (c .before .before .before .before .before .before .before .before .before .before .before .before .pre .1) _ (c .before .before .before .before .before .before .if1 .taken)) (c .before .before .before .lay .ensures) (c .name-length .ensures .0))
-    (λ c. let a = c .before .before .before .before .before .before .args in let s = now (a .entries) in let x = now (a .text) in texts-end (nameIn s x) (nameLengthIn s) (a .c .entries) (a .from) (c .before .before .before .before .before .before .pre .2) (c .before .before .loop .inv) (c .if1 .left))
-    (λ c. let a = c .before .before .before .before .before .before .args in let s = now (a .entries) in let x = now (a .text) in texts-all (nameIn s x) (nameLengthIn s) (a .c .entries) (a .from) (c .before .before .before .before .before .before .pre .2) (c .before .before .loop .inv) (c .if1 .left)))
+    (λ c.
+    let start = c .before .before .before .before .before .before .before .before .before .before .before .before in
+    let a = start .args in
+    let s = now (a .entries) in
+    let x = now (a .text) in
+    texts-on (nameIn s x) (nameLengthIn s) (a .c .entries) (a .from) (start .pre .2) (c .before .before .before .before .before .before .before .before .loop .inv)
+    (c .before .before .before .before .before .before .if1 .taken) (c .before .before .before .before .name .ensures)
+    (name-long (a .c) s x (start .pre .1) _ (c .before .before .before .before .before .before .if1 .taken)) (c .before .before .before .lay .ensures) (c .name-length .ensures .0))
+    (λ c.
+    let start = c .before .before .before .before .before .before in
+    let a = start .args in
+    let s = now (a .entries) in
+    let x = now (a .text) in
+    texts-end (nameIn s x) (nameLengthIn s) (a .c .entries) (a .from) (start .pre .2) (c .before .before .loop .inv) (c .if1 .left))
+    (λ c.
+    let start = c .before .before .before .before .before .before in
+    let a = start .args in
+    let s = now (a .entries) in
+    let x = now (a .text) in
+    texts-all (nameIn s x) (nameLengthIn s) (a .c .entries) (a .from) (start .pre .2) (c .before .before .loop .inv) (c .if1 .left)))

@@ -27,6 +27,11 @@ put-nodes-spec =
     (λ c. search needs)
     (λ c. search needs)
     (λ c. search needs)
-    (λ c. let a = c .before .before .before .before .before .before .before .before .before .before .before .args in nodes-on (a .c) (now (a .nodes)) (a .names) (c .before .before .before .before .before .before .before .before .before .before .before .pre .1) (c .before .before .before .before .before .before .before .before .loop .inv) (c .before .before .before .before .before .before .if1 .taken) (c .before .before .before .before .first-at .ensures) (c .before .before .before .put-node .ensures) (c .body-length .ensures))
+    (λ c.
+    let start = c .before .before .before .before .before .before .before .before .before .before .before in
+    let a = start .args in
+    nodes-on (a .c) (now (a .nodes)) (a .names) (start .pre .1) (c .before .before .before .before .before .before .before .before .loop .inv)
+    (c .before .before .before .before .before .before .if1 .taken) (c .before .before .before .before .first-at .ensures) (c .before .before .before .put-node .ensures)
+    (c .body-length .ensures))
     (λ c. search (needs, nodes-length))
     (λ c. search (needs, nodes-all)))

@@ -12,4 +12,6 @@ counts-fit-spec =
     (λ c text. many-nodes (c .before .before .before .before .args .c) text (c .if2 .taken))
     (λ c text. no-mounts (c .before .before .before .before .before .before .args .c) text (c .if3 .taken))
     (λ c text. many-mounts (c .before .before .before .before .before .before .before .before .args .c) text (c .if4 .taken))
-    (λ c text. by-entries (c .before .before .before .before .before .before .before .before .before .args .c) text (c .before .before .before .before .before .before .before .if1 .left) (c .before .before .before .before .before .if2 .left) (c .before .before .before .if3 .left) (c .before .if4 .left)))
+    (λ c text.
+    by-entries (c .before .before .before .before .before .before .before .before .before .args .c) text (c .before .before .before .before .before .before .before .if1 .left)
+    (c .before .before .before .before .before .if2 .left) (c .before .before .before .if3 .left) (c .before .if4 .left)))
