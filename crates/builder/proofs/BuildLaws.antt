@@ -1,15 +1,15 @@
 -- What the builder answers, by the first test that refuses; and the buffer after it. Assumes nothing.
 use Prim.Native.Nat.{ℕ, _+_, _*_, _/_, _≤_, _<_}
-use mathlib.Core.Bool.{Bool, true, false, not, _&&_, _||_, and-false}
-use mathlib.Core.List.{List, []}
+use mathlib.Core.Bool.{Bool, true, false, not, and-false}
+use mathlib.Core.List.{List}
 use mathlib.Core.Option.{none}
-use mathlib.Core.Path.{_≡_, refl, sym, ap, ap₂, _∙_, subst}
+use mathlib.Core.Path.{_≡_, sym, ap, _∙_}
 use native.Mathlib.Omega.{arith}
-use borrow.Author.Tests.{ltb-true, ltb-false, le-leb, lt-leb, not-true, not-false, eqb-true}
-use lib.Dec.{eqb, ltb, leb}
+use borrow.Author.Tests.{le-leb, lt-leb, not-true, not-false, eqb-true}
+use lib.Dec.{leb}
 use lib.ListN.{length}
 use Rattle.model.specs.Bytes.{over}
-use Rattle.model.specs.Tree.{Tree, nameLengthIn}
+use Rattle.model.specs.Tree.{Tree}
 use Rattle.model.specs.TableCheck.{unless, lengthFits, countsFit, wholeLength, recordsCheck}
 use Rattle.model.specs.Build.{Parts, sizesIn, treeIn, recordsWhole, bodyLength, nameAt, namesLength, bodyAt, writtenSizes, writtenLength, imageOf, partsCheck, built, bufferAfter}
 use Rattle.model.specs.declared.Verdict.{Verdict}
@@ -18,8 +18,8 @@ use Rattle.model.specs.declared.Built.{Built}
 use Rattle.model.specs.declared.Built.the-variants.{Written, Broken as Built-broken, Short}
 use Rattle.laws.specs.Acceptance.{CountsHold, TextsInside}
 use Rattle.laws.proofs.Acceptance.{counts-hold, unbroken-records, texts-inside}
-use Rattle.laws.proofs.Cases.{both, neither}
-use Rattle.parts.specs.Parts.{partsTree, entriesTree, NodeRecords, MountRecords, EntryRecords}
+use Rattle.laws.proofs.Cases.{both}
+use Rattle.parts.specs.Parts.{partsTree, NodeRecords, MountRecords, EntryRecords}
 use Rattle.parts.specs.declared.records.Counts.{Counts}
 use Rattle.image_writer.specs.declared.Lengths.{Lengths}
 use Rattle.image_writer.specs.Writing.{Measured, Fitting}

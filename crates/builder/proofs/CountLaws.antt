@@ -1,6 +1,6 @@
 -- What is counted before any rule is judged: whole records, and sums that are taken one record at a time. Assumes nothing.
 use Prim.Native.Nat.{ℕ, suc, _+_, _*_, _/_, _≤_, _<_}
-use mathlib.Core.Bool.{Bool, true, false, _&&_, _||_, and-false}
+use mathlib.Core.Bool.{Bool, true, false, _||_, and-false}
 use mathlib.Core.List.{List, []}
 use mathlib.Core.Path.{_≡_, refl, sym, ap, ap₂, _∙_, subst}
 use native.Mathlib.Nat.{mul-suc}
@@ -8,13 +8,12 @@ use native.Mathlib.Omega.{arith}
 use borrow.Author.Tests.{eq-eqb, ne-eqb, lt-ltb, le-ltb, ltb-true, ltb-false}
 use lib.Dec.{eqb, ltb}
 use lib.ListN.{length}
-use Rattle.model.specs.Tree.{Tree, nameLengthIn}
+use Rattle.model.specs.Tree.{nameLengthIn}
 use Rattle.model.specs.TableCheck.{sumBelow, wholeLength}
 use Rattle.model.specs.Build.{Parts, sizesIn, recordsWhole, bodyLength, nameAt, namesLength, bodyAt, writtenSizes, writtenLength}
 use Rattle.laws.proofs.Cases.{neither}
 use Rattle.parts.specs.Parts.{nodesTree, entriesTree}
 use Rattle.parts.specs.declared.records.Counts.{Counts}
-use Rattle.image_writer.specs.declared.Lengths.{Lengths}
 use Rattle.builder.specs.Counted.{partsBy, countsIn, tooMany, FewRecords, lengthsOf}
 
 -- a sum of which n numbers are added, none above a limit

@@ -2,20 +2,20 @@
 use Prim.Native.Nat.{ℕ, _+_, _*_, _^_, _≤_, _<_}
 use mathlib.Core.Bool.{cond}
 use mathlib.Core.List.{List, [], _∷_, _++_, append-assoc}
-use mathlib.Core.Path.{_≡_, refl, sym, ap, ap₂, _∙_}
+use mathlib.Core.Path.{_≡_, sym, ap, ap₂, _∙_}
 use native.Mathlib.Omega.{arith}
 use lib.Dec.{eqb}
 use lib.ListN.{length, length-append}
-use Rattle.model.specs.Bytes.{fieldsBytes, joinBelow, over, ascii}
+use Rattle.model.specs.Bytes.{joinBelow, over, ascii}
 use Rattle.model.specs.Tree.{Sizes, Tree, nameLengthIn, nameIn}
 use Rattle.model.specs.TableCheck.{sumBelow, wholeLength}
 use Rattle.model.specs.Build.{bodyLength, bodyBytes, textOf, nameAt, namesLength, bodyAt, writtenSizes, writtenLength, headerBytes, nodeBytes, mountBytes, entryBytes, imageOf}
-use Rattle.laws.proofs.OverLaws.{over-then, fields-length, join-records}
-use Rattle.parts.specs.Parts.{partsTree, nodesTree, mountsTree, NodeRecords, EntryRecords}
+use Rattle.laws.proofs.OverLaws.{over-then, fields-length, join-sum, join-records}
+use Rattle.parts.specs.Parts.{partsTree, nodesTree, mountsTree}
 use Rattle.parts.specs.declared.records.Counts.{Counts}
 use Rattle.image_writer.specs.declared.Lengths.{Lengths}
-use Rattle.image_writer.specs.Writing.{sizesBy, namedTree, NamesInside, BodiesInside, Measured, Fitting}
-use Rattle.image_writer.proofs.TextLaws.{name-long, body-long, join-sum}
+use Rattle.image_writer.specs.Writing.{sizesBy, namedTree, Fitting}
+use Rattle.image_writer.proofs.TextLaws.{name-long, body-long}
 
 header-length : (z : Sizes) → length (headerBytes z) ≡ 20
 unfolding headerBytes ascii

@@ -1,21 +1,20 @@
 -- Loops that lay one string behind the other: records, whose offsets are running sums, and the texts that they stand for. Assumes nothing.
-use Prim.Native.Nat.{ℕ, zero, suc, _+_, _*_, _^_, _≤_, _<_}
+use Prim.Native.Nat.{ℕ, suc, _+_, _*_, _^_, _≤_, _<_}
 use mathlib.Core.Bool.{cond}
-use mathlib.Core.List.{List, [], _∷_, _++_}
-use mathlib.Core.Logic.{⊎-elim}
+use mathlib.Core.List.{List, [], _∷_}
 use mathlib.Core.Path.{_≡_, refl, sym, ap, _∙_}
-use native.Mathlib.Nat.{le-of-eq, le-of-suc-le-suc, eq-or-lt-of-le}
 use native.Mathlib.Omega.{arith}
 use lib.Dec.{eqb}
 use lib.ListN.{length, length-append}
 use Rattle.model.specs.Bytes.{fieldsBytes, joinBelow, over}
 use Rattle.model.specs.Tree.{Tree, kindIn, parentIn, firstIn, countIn, nameLengthIn, entryNodeIn}
 use Rattle.model.specs.TableCheck.{sumBelow}
-use Rattle.model.specs.Build.{bodyLength, bodyBytes, bodyAt, nameAt, nodeBytes, entryBytes}
-use Rattle.laws.proofs.OverLaws.{over-none, over-length, over-then, fields-length, join-length, join-records}
+use Rattle.model.specs.Build.{bodyLength, bodyAt, nameAt, nodeBytes, entryBytes}
+use Rattle.laws.proofs.OverLaws.{over-none, over-length, over-then, fields-length, join-records}
+use Rattle.laws.proofs.SumLaws.{sum-grows}
 use Rattle.parts.specs.Parts.{nodesTree}
 use Rattle.parts.specs.declared.records.Counts.{Counts}
-use Rattle.image_writer.specs.Writing.{namedTree, NamesInside, BodiesInside}
+use Rattle.image_writer.specs.Writing.{namedTree}
 
 -- n of the strings are laid, from a position on
 pub record Joined (f : ℕ → List ℕ) (s : List ℕ) (from : ℕ) (now' : List ℕ) (n : ℕ) : Type 0 where
@@ -141,16 +140,6 @@ module _ (c : Counts) (entries : List ℕ) (from : ℕ) where
       pub entries-all : c .entries ≤ e → now' ≡ over s from (joinBelow (entryBytes u) (c .entries))
       entries-all h = let k : e ≡ c .entries = omega (arith, l .within) in l .done .joined ∙ ap (λ (x : ℕ). over s from (joinBelow (entryBytes u) x)) k
 
--- the sum of the lengths before a string, and its own, is at most that of all
-pub sum-grows : (f : ℕ → ℕ) (n m : ℕ) → n < m → sumBelow f n + f n ≤ sumBelow f m
-unfolding sumBelow
-sum-grows f n zero h = absurd (omega arith)
-sum-grows f n (suc m) h =
-    ⊎-elim
-    (λ (e : n ≡ m). le-of-eq (ap (λ (k : ℕ). sumBelow f k + f k) e))
-    (λ (l : n < m). omega (arith, sum-grows f n m l))
-    (eq-or-lt-of-le (le-of-suc-le-suc h))
-
 -- texts, each as long as is told
 module _ (f : ℕ → List ℕ) (long : ℕ → ℕ) (count : ℕ) (from : ℕ) where
   -- n texts are laid, and the next begins at `at`
@@ -167,7 +156,8 @@ module _ (f : ℕ → List ℕ) (long : ℕ → ℕ) (count : ℕ) (from : ℕ) 
 
     module _ {now' : List ℕ} {at n : ℕ} (l : Texts s now' at n) where
       in-all : n < count → sumBelow long n + long n ≤ sumBelow long count
-      in-all h = sum-grows long n count h
+      unfolding sumBelow
+      in-all h = sum-grows long (suc n) count h
 
       pub texts-length : n < count → length now' ≡ length s
       texts-length h = joined-length (l .done) (omega (arith, l .laid-is, in-all h))

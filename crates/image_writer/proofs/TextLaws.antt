@@ -1,26 +1,17 @@
 -- Names and bodies that lie inside the text are as long as their records say. Assumes nothing.
-use Prim.Native.Nat.{ℕ, zero, suc, _+_, _^_, _≤_, _<_}
+use Prim.Native.Nat.{ℕ, _+_, _^_, _≤_, _<_}
 use mathlib.Core.Bool.{Bool, true, false, cond}
 use mathlib.Core.List.{List, []}
-use mathlib.Core.Path.{_≡_, refl, ap₂, _∙_}
-use native.Mathlib.Omega.{arith}
+use mathlib.Core.Path.{_≡_, refl}
 use borrow.Author.Tests.{eqb-true}
 use lib.Dec.{eqb}
-use lib.ListN.{length, length-append}
-use Rattle.model.specs.Bytes.{joinBelow}
+use lib.ListN.{length}
 use Rattle.model.specs.Tree.{kindIn, firstIn, countIn, bodyIn, nameOffsetIn, nameLengthIn, nameIn}
-use Rattle.model.specs.TableCheck.{sumBelow}
 use Rattle.model.specs.Build.{bodyLength, bodyBytes}
 use Rattle.laws.proofs.PartLaws.{part-whole}
 use Rattle.parts.specs.Parts.{nodesTree}
 use Rattle.parts.specs.declared.records.Counts.{Counts}
 use Rattle.image_writer.specs.Writing.{NamesInside, BodiesInside}
-
--- strings that are as long as is told are so together
-pub join-sum : (f : ℕ → List ℕ) (long : ℕ → ℕ) (n : ℕ) → ((k : ℕ) → k < n → length (f k) ≡ long k) → length (joinBelow f n) ≡ sumBelow long n
-unfolding joinBelow sumBelow
-join-sum f long zero whole = refl
-join-sum f long (suc n) whole = length-append (joinBelow f n) (f n) ∙ ap₂ _+_ (join-sum f long n (λ k h. whole k (omega arith))) (whole n (omega arith))
 
 pub name-long : (c : Counts) (entries text : List ℕ) → NamesInside c entries text → (e : ℕ) → e < c .entries → length (nameIn entries text e) ≡ nameLengthIn entries e
 name-long c entries text inside e h = part-whole text (nameOffsetIn entries e) (nameLengthIn entries e) (inside .name-inside e h)

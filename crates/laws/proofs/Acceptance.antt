@@ -3,9 +3,8 @@ use Prim.Native.Nat.{ℕ, zero, suc, _+_, _-_, _≤_, _<_}
 use mathlib.Core.Bool.{Bool, true, false, not, _&&_, true≢false}
 use mathlib.Core.List.{List}
 use mathlib.Core.Option.{Option, none, some}
-use mathlib.Core.Path.{_≡_, refl, sym, ap, _∙_, subst}
-use mathlib.Core.Logic.{⊎-elim}
-use native.Mathlib.Nat.{le-of-eq, le-trans, le-of-suc-le-suc, eq-or-lt-of-le}
+use mathlib.Core.Path.{_≡_, refl, sym, _∙_, subst}
+use native.Mathlib.Nat.{le-trans}
 use native.Mathlib.Omega.{arith}
 use lib.Dec.{eqb, ltb, leb}
 use lib.ListN.{length, length-take}
@@ -22,6 +21,7 @@ use Rattle.laws.specs.Acceptance.{CountsHold, Sized, DirectoriesHold, No
 use Rattle.laws.proofs.ByteLaws.{firstFailing-none, find-some}
 use Rattle.laws.proofs.Cases.{some-not-none, both}
 use Rattle.laws.proofs.PartLaws.{part-whole, text-length}
+use Rattle.laws.proofs.SumLaws.{sum-grows}
 
 pub unbroken : (rule : ℕ) (o : Option ℕ) (later : Verdict) → breaks rule o later ≡ Accepted → (o ≡ none) × (later ≡ Accepted)
 unbroken rule none later e = (refl, e)
@@ -166,13 +166,8 @@ module _ (t : Tree) (directories : DirectoriesHold t) where
   first-sum n d = directory-facts n d .2
 
   pub counts-grow : (n m : ℕ) → n ≤ m → countsBefore t n ≤ countsBefore t m
-  unfolding countsBefore sumBelow
-  counts-grow n zero h = le-of-eq (let e : n ≡ 0 = omega arith in ap (countsBefore t) e)
-  counts-grow n (suc m) h =
-      ⊎-elim
-      (λ e. le-of-eq (ap (countsBefore t) e))
-      (λ l. omega (arith, counts-grow n m (le-of-suc-le-suc l)))
-      (eq-or-lt-of-le h)
+  unfolding countsBefore
+  counts-grow n m h = sum-grows (λ k. directoryCount t k) n m h
 
   pub counts-next : (n : ℕ) → t .kind n ≡ 1 → countsBefore t (suc n) ≡ countsBefore t n + t .count n
   unfolding countsBefore sumBelow directoryCount

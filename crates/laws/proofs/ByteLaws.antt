@@ -8,7 +8,7 @@ use native.Mathlib.Omega.{arith}
 use native.Mathlib.Nat.{eq-or-lt-of-le, zero-add, add-zero, suc-add, pow-suc}
 use mathlib.Core.Logic.{_⊎_, inl, inr, ⊎-elim}
 use borrow.Author.Tests.{not-false}
-use lib.ListN.{getD}
+use lib.ListN.{length, getD, List·getD-eq-default}
 use Rattle.model.specs.Bytes.{field, fieldBytes, find, firstFailing, orElse, isSome}
 use Rattle.laws.proofs.Cases.{some-not-none}
 
@@ -56,6 +56,12 @@ field-cons zero x s at = refl
 field-cons (suc width) x s at =
     let e : suc at + 1 ≡ suc (at + 1) = omega arith in
     rw (e, field-cons width x s (at + 1))
+
+-- a field past the end of its string
+pub field-past : (width : ℕ) (s : List ℕ) (at : ℕ) → length s ≤ at → field width s at ≡ 0
+unfolding field
+field-past zero s at h = refl
+field-past (suc width) s at h = rw (List·getD-eq-default s 0 h, field-past width s (at + 1) (omega arith))
 
 -- reading back what was written gives the number, at every width
 pub field-bytes : (width x : ℕ) (s : List ℕ) → x < 256 ^ width → field width (fieldBytes width x ++ s) 0 ≡ x

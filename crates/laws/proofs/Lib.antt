@@ -5,6 +5,7 @@ pub mod BitLaws
 pub mod StringLaws
 pub mod BeforeLaws
 pub mod PartLaws
+pub mod SumLaws
 pub mod ComponentLaws
 pub mod Acceptance
 pub mod UnderLaws

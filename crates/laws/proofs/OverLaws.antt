@@ -81,11 +81,11 @@ module _ (s : List ℕ) (bytes : (i : ℕ) → getD s i 0 < 256) where
       let next : suc at ≡ at + 1 = omega arith in
       rw (low, high, drop-cons s at 0 (omega arith), next) (ap (λ (l : List ℕ). b ∷ l) (field-again width (at + 1) (omega arith)))
 
--- strings joined have the sum of their lengths
-pub join-length : (f : ℕ → List ℕ) (n : ℕ) → length (joinBelow f n) ≡ sumBelow (λ k. length (f k)) n
+-- strings joined have the sum of their lengths, where each one's length is known
+pub join-sum : (f : ℕ → List ℕ) (long : ℕ → ℕ) (n : ℕ) → ((k : ℕ) → k < n → length (f k) ≡ long k) → length (joinBelow f n) ≡ sumBelow long n
 unfolding joinBelow sumBelow
-join-length f zero = refl
-join-length f (suc n) = length-append (joinBelow f n) (f n) ∙ ap (λ (k : ℕ). k + length (f n)) (join-length f n)
+join-sum f long zero whole = refl
+join-sum f long (suc n) whole = length-append (joinBelow f n) (f n) ∙ ap₂ _+_ (join-sum f long n (λ k h. whole k (omega arith))) (whole n (omega arith))
 
 -- strings that are alike are joined alike
 pub join-alike : (f g : ℕ → List ℕ) (n : ℕ) → ((k : ℕ) → k < n → f k ≡ g k) → joinBelow f n ≡ joinBelow g n

@@ -7,9 +7,9 @@ use native.Mathlib.Omega.{arith}
 use native.Mathlib.Nat.{mul-le-mul-left}
 use lib.ListN.{length, getD, take}
 use Rattle.model.specs.Bytes.{field, fieldsBytes, joinBelow}
-use Rattle.laws.proofs.ByteLaws.{field-lt}
+use Rattle.laws.proofs.ByteLaws.{field-lt, field-past}
 use Rattle.laws.proofs.OverLaws.{fields-length, widths}
-use Rattle.round_trip.proofs.Joined.{field-past, fields-cell, join-column}
+use Rattle.round_trip.proofs.Joined.{fields-cell, join-column}
 
 -- its numbers have no more digits than its width, and past the last record it is 0
 pub record Column (width rows : ℕ) (column : ℕ → ℕ) : Type 0 where

@@ -10,9 +10,9 @@ use Rattle.model.specs.Bytes.{field, fieldsBytes, joinBelow, part, ascii}
 use Rattle.model.specs.Tree.{Tree, Sizes, sizesOf, nodesPart, mountsPart, entriesPart, textPart, treeOf, treeBy, treeOfParts}
 use Rattle.model.specs.TableCheck.{rule2, sumBelow, wholeLength}
 use Rattle.model.specs.Build.{bodyLength, bodyBytes, textOf, nameAt, namesLength, bodyAt, writtenSizes, writtenLength, headerBytes, nodeBytes, mountBytes, entryBytes, imageOf}
-use Rattle.laws.proofs.OverLaws.{fields-length, join-records, widths}
+use Rattle.laws.proofs.OverLaws.{fields-length, join-sum, join-records, widths}
 use Rattle.laws.proofs.StringLaws.{equal-same}
-use Rattle.round_trip.proofs.Joined.{part-left, part-last, part-right, field-left, field-right, fields-cell, join-part, join-sums}
+use Rattle.round_trip.proofs.Joined.{part-left, part-last, part-right, field-left, field-right, fields-cell, join-part}
 use Rattle.round_trip.proofs.Moved.{names-inside}
 
 -- names and bodies have the lengths that their records give
@@ -117,10 +117,10 @@ module _ (t : Tree) where
   module _ (texts : TextsWhole t) where
     names-length : (e : ℕ) → e ≤ t .entries → length (joinBelow (t .name) e) ≡ nameAt t e
     unfolding nameAt
-    names-length e h = join-sums (t .name) (t .nameLength) e (λ k l. texts .name-whole k (omega arith))
+    names-length e h = join-sum (t .name) (t .nameLength) e (λ k l. texts .name-whole k (omega arith))
 
     bodies-length : (n : ℕ) → n ≤ t .nodes → length (joinBelow (bodyBytes t) n) ≡ sumBelow (bodyLength t) n
-    bodies-length n h = join-sums (bodyBytes t) (bodyLength t) n (λ k l. texts .body-whole k (omega arith))
+    bodies-length n h = join-sum (bodyBytes t) (bodyLength t) n (λ k l. texts .body-whole k (omega arith))
 
     text-length : length (textOf t) ≡ writtenSizes t .text
     unfolding textOf writtenSizes bodyAt namesLength

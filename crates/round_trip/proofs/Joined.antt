@@ -5,14 +5,14 @@ use mathlib.Core.Path.{_≡_, refl, sym, ap, ap₂, _∙_}
 use mathlib.Core.Logic.{⊎-elim}
 use native.Mathlib.Omega.{arith}
 use native.Mathlib.Nat.{eq-or-lt-of-le, le-of-suc-le-suc, mul-le-mul-left}
-use lib.ListN.{length, getD, take, drop, length-append, length-drop, List·getD-append, List·getD-eq-default}
+use lib.ListN.{length, getD, take, drop, length-append, length-drop, List·getD-append}
 use lib.Seq.{drop-at, take-append-le, drop-append-le, drop-append-add, split-at, getD-append-add, take-all}
 use Rattle.model.specs.Bytes.{field, fieldBytes, fieldsBytes, joinBelow, part}
-use Rattle.model.specs.TableCheck.{sumBelow}
 use Rattle.laws.proofs.Cases.{below-or}
-use Rattle.laws.proofs.ByteLaws.{field-ext, field-bytes}
+use Rattle.laws.proofs.ByteLaws.{field-ext, field-bytes, field-past}
 use Rattle.laws.proofs.PartLaws.{field-part}
-use Rattle.laws.proofs.OverLaws.{field-bytes-length, join-length, join-records, widths}
+use Rattle.laws.proofs.SumLaws.{sum-grows}
+use Rattle.laws.proofs.OverLaws.{field-bytes-length, join-sum, join-records, widths}
 
 -- parts and fields of two strings, one after the other
 module _ (a b : List ℕ) where
@@ -38,12 +38,6 @@ module _ (a b : List ℕ) where
   field-right (suc width) k at e =
       ap₂ (λ (x y : ℕ). x + 256 * y) (ap (λ (i : ℕ). getD (a ++ b) i 0) e ∙ getD-append-add a b k 0) (field-right width (k + 1) (at + 1) (omega arith))
 
--- past a string's end a field is 0
-pub field-past : (width : ℕ) (s : List ℕ) (at : ℕ) → length s ≤ at → field width s at ≡ 0
-unfolding field
-field-past zero s at h = refl
-field-past (suc width) s at h = rw (List·getD-eq-default s 0 h, field-past width s (at + 1) (omega arith))
-
 -- a field of a record is the number that was written, if it has no more digits than its width
 pub fields-field : (fs gs : List (ℕ × ℕ)) (width x : ℕ) → x < 256 ^ width → field width (fieldsBytes (fs ++ (width, x) ∷ gs)) (widths fs) ≡ x
 unfolding fieldsBytes
@@ -60,21 +54,11 @@ fields-cell row i width x h is small =
     (split-at row i (0, 0) h ∙ ap (λ (c : ℕ × ℕ). take i row ++ c ∷ drop (suc i) row) is)
     ∙ fields-field (take i row) (drop (suc i) row) width x small
 
--- a sum over more numbers is no lower
-pub sum-grows : (f : ℕ → ℕ) (k n : ℕ) → k ≤ n → sumBelow f k ≤ sumBelow f n
-unfolding sumBelow
-sum-grows f k zero h = let e : k ≡ 0 = omega arith in rw e (omega arith)
-sum-grows f k (suc n) h =
-    ⊎-elim
-    (λ (e : k ≡ suc n). rw e (omega arith))
-    (λ (l : k < suc n). omega (arith, sum-grows f k n (le-of-suc-le-suc l)))
-    (eq-or-lt-of-le h)
-
 -- the string that a function gives for one of the numbers, out of all of them joined
 module _ (f : ℕ → List ℕ) where
   -- what is joined up to one of them stands inside the whole
   join-grows : (k n : ℕ) → k ≤ n → length (joinBelow f k) ≤ length (joinBelow f n)
-  join-grows k n h = rw (join-length f k, join-length f n) (sum-grows (λ i. length (f i)) k n h)
+  join-grows k n h = rw (join-sum f (λ i. length (f i)) k (λ i l. refl), join-sum f (λ i. length (f i)) n (λ i l. refl)) (sum-grows (λ i. length (f i)) k n h)
 
   -- the one with a number stands behind those before it
   pub join-part : (n k at count : ℕ) → k < n → length (joinBelow f k) ≡ at → length (f k) ≡ count → part (joinBelow f n) at count ≡ f k
@@ -87,13 +71,6 @@ module _ (f : ℕ → List ℕ) where
       (λ (l : k < n).
       part-left (joinBelow f n) (f n) at count (omega (arith, join-grows (suc k) n l, length-append (joinBelow f k) (f k))) ∙ join-part n k at count l e g)
       (eq-or-lt-of-le (le-of-suc-le-suc h))
-
-  -- how long they are together, where each one's length is known
-  pub join-sums : (size : ℕ → ℕ) (n : ℕ) → ((k : ℕ) → k < n → length (f k) ≡ size k) → length (joinBelow f n) ≡ sumBelow size n
-  unfolding joinBelow sumBelow
-  join-sums size zero whole = refl
-  join-sums size (suc n) whole =
-      length-append (joinBelow f n) (f n) ∙ ap₂ _+_ (join-sums size n (λ k h. whole k (omega arith))) (whole n (omega arith))
 
   -- a column of records of one size, read back: past the last record every field is 0
   pub join-column : (size : ℕ) → ((k : ℕ) → length (f k) ≡ size) → (rows width o : ℕ) → o + width ≤ size

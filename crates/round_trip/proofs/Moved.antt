@@ -14,7 +14,7 @@ use Rattle.model.specs.Build.{bodyLength, textOf, nameAt, namesLength, bodyAt, 
 use Rattle.laws.proofs.ByteLaws.{find-ext}
 use Rattle.round_trip.specs.SameTree.{SameTree, withoutOffsets}
 use Rattle.laws.specs.Acceptance.{TextsInside}
-use Rattle.round_trip.proofs.Joined.{sum-grows}
+use Rattle.laws.proofs.SumLaws.{sum-grows}
 
 -- What is read back: bodies and names begin where they are written, and past the last entry nothing has an offset. What a record that is no symbolic link
 -- would have for a body is what stands at its `first` in the text that is written.

@@ -2,12 +2,13 @@
 use Prim.Native.Nat.{ℕ, zero, suc, _+_, _*_, _≤_, _<_}
 use mathlib.Core.Logic.{_⊎_, inl, inr}
 use mathlib.Core.List.{List, [], _∷_}
-use mathlib.Core.Path.{_≡_, refl, sym, _∙_}
+use mathlib.Core.Path.{_≡_, sym, _∙_}
 use native.Mathlib.Omega.{arith}
-use lib.ListN.{length, length-take, List·getD-eq-default}
+use lib.ListN.{length, length-take}
 use Rattle.laws.proofs.Cases.{below-or}
 use Rattle.model.specs.Bytes.{field, part}
 use Rattle.model.specs.Tree.{Tree, sizesOf, mountsAt, entriesAt, nodesPart, mountsPart, entriesPart, treeOf}
+use Rattle.laws.proofs.ByteLaws.{field-past}
 use Rattle.round_trip.specs.SameTree.{withoutOffsets, SameTree}
 
 -- what a column holds for the numbers below n
@@ -57,14 +58,6 @@ module _ {A : Type 0} (f g : ℕ → A) where
       at : (n < k) ⊎ (k ≤ n) → f n ≡ g n
       at (inl l) = listed-at k n e l
       at (inr l) = p n l ∙ sym (q n l)
-
--- a field past the end of its string
-field-past : (width : ℕ) (s : List ℕ) (at : ℕ) → length s ≤ at → field width s at ≡ 0
-unfolding field
-field-past zero s at h = refl
-field-past (suc width) s at h =
-    let later : field width s (at + 1) ≡ 0 = field-past width s (at + 1) (omega arith) in
-    rw (List·getD-eq-default s 0 h, later)
 
 -- a part is no longer than asked
 part-short : (s : List ℕ) (at count : ℕ) → length (part s at count) ≤ count

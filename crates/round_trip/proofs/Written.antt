@@ -9,7 +9,7 @@ use lib.Dec.{leb}
 use lib.ListN.{length}
 use borrow.Author.Tests.{eq-eqb, eqb-true, leb-true}
 use Rattle.model.specs.Bytes.{part}
-use Rattle.model.specs.Tree.{Tree, Sizes, sizesOf, nodesPart, mountsPart, entriesPart, textPart, treeOf, treeOfParts}
+use Rattle.model.specs.Tree.{Sizes, sizesOf, nodesPart, mountsPart, entriesPart, textPart, treeOf, treeOfParts}
 use Rattle.model.specs.TableCheck.{unless, lengthFits, rule1, rule2, countsFit, rule3, breaks, recordsCheck, tableCheck}
 use Rattle.model.specs.Build.{Parts, sizesIn, treeIn, recordsWhole, bodyLength, bodyBytes, writtenSizes, writtenLength, imageOf, partsCheck}
 use Rattle.model.specs.declared.Verdict.{Verdict}

@@ -1,5 +1,5 @@
 -- Laws of records whose parts hold a barred byte, of the first of them, and of how long their parts are together. Assumes nothing.
-use Prim.Native.Nat.{ℕ, zero, suc, _+_, _-_, _*_, _/_, _^_, _≤_, _<_}
+use Prim.Native.Nat.{ℕ, _+_, _-_, _*_, _/_, _^_, _≤_, _<_}
 use mathlib.Core.Bool.{Bool, true, false, cond, not, true≢false}
 use mathlib.Core.List.{List}
 use mathlib.Core.Logic.{_⊎_, inl, inr, ⊎-elim}
@@ -15,6 +15,7 @@ use Rattle.parts.specs.Searches.{foundOr}
 use Rattle.parts.proofs.FoundLaws.{found, FirstFrom}
 use Rattle.strings.proofs.PartLaws.{not-in-part}
 use Rattle.laws.proofs.Cases.{below-or, both, neither}
+use Rattle.laws.proofs.SumLaws.{sum-grows}
 use Rattle.text_marks.specs.Barred.{holdsBarred}
 use Rattle.table_texts.specs.Barred.{recordSize, partStart, partLength, recordBarred, firstBarred, fewRecords, sureRecords, seenClean, longerThan, isMarked}
 
@@ -79,23 +80,6 @@ first-clean names records text count e =
     (λ (h : k < count). absurd (true≢false (sym (f .passes h) ∙ clean-record names records text k e)))
     (λ (h : count ≤ k). omega (arith, f .below))
     (below-or k count)
-
--- a sum only grows
-sum-more : (f : ℕ → ℕ) (k more : ℕ) → sumBelow f k ≤ sumBelow f (more + k)
-unfolding sumBelow
-sum-more f k zero =
-    let z : 0 + k ≡ k = omega arith in
-    let e : sumBelow f (0 + k) ≡ sumBelow f k = ap (sumBelow f) z in
-    omega arith
-sum-more f k (suc more) =
-    let z : suc more + k ≡ suc (more + k) = omega arith in
-    let e : sumBelow f (suc more + k) ≡ sumBelow f (more + k) + f (more + k) = ap (sumBelow f) z in
-    omega (arith, sum-more f k more)
-
-sum-grows : (f : ℕ → ℕ) (k n : ℕ) → k ≤ n → sumBelow f k ≤ sumBelow f n
-sum-grows f k n h =
-    let e : (n - k) + k ≡ n = omega arith in
-    rw e at (sum-more f k (n - k))
 
 -- A loop adds up the parts, and stands at k: so far the sum is no higher than the limit.
 pub record SumTo (names : Bool) (records : List ℕ) (count limit sum k : ℕ) : Type 0 where
