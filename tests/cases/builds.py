@@ -125,6 +125,20 @@ LARGEST = spelled(
 OF_LARGEST = source(LARGEST)._replace(text=NAMES + b"./" * 1830 + b".").node(33, first=896)
 OF_LARGEST = OF_LARGEST._replace(entries=entries(*((7 * i, 7, 32) for i in range(128))) * 32)
 
+# Offsets above 32,767, of names and of bodies. 0 top, 1 a file with 160 names of 255 bytes, each three digits before 252 times "n"; 2 to 6 links to
+# 2,000 times `./`, without a name.
+LATE_NAMES = [b"%03d" % i + b"n" * 252 for i in range(160)]
+LATE = spelled(
+    (7, 1, 160, 60800, 62192),
+    nodes((DIRECTORY, 0, 0, 160), (FILE, 0, 0, 0), *((SYMLINK, 0, 40800 + 4000 * i, 4000) for i in range(5))),
+    mounts((0, 0, 0)),
+    entries(*((255 * i, 255, 1) for i in range(160))),
+    b"".join(LATE_NAMES) + b"./" * 10000,
+)
+OF_LATE = source(LATE).placed(
+    b"./" * 2000 + b"".join(reversed(LATE_NAMES)), [4000 + 255 * (159 - i) for i in range(160)], dict.fromkeys(range(2, 7), 0)
+)
+
 OF_SMALLEST, OF_BENCH, OF_NARROW, OF_ENDS = source(SMALLEST), source(trees.bench()), source(trees.narrow()), source(ENDS)
 NOTHING = Source(b"", b"", b"", b"")
 ZEROS = bytes(65536)
@@ -232,11 +246,12 @@ build(
     "306 nodes, the body before the names in the text",
 )
 build("build-largest", OF_LARGEST, written(LARGEST), "65,536 bytes, 4,096 entries that share 128 names")
+build("build-late", OF_LATE, written(LATE), "160 names of 255 bytes and five bodies of 4,000, at offsets up to 56,800; the text has one body, then the names backwards")
 
 says("19.11", "Reading back gives the same tree; writing what was read from a built image gives the same bytes.")
 for name, image in [
     ("bench", BENCH), ("narrow", NARROW), ("ends", ENDS), ("notes", NOTES), ("overlaid", OVERLAID), ("twice", TWICE), ("begun", BEGUN),
-    ("high", HIGH), ("far", FAR), ("largest", LARGEST),
+    ("high", HIGH), ("far", FAR), ("largest", LARGEST), ("late", LATE),
 ]:
     build(f"build-again-{name}", source(image), written(image), "", family="the parts of an image that was written above")
 

@@ -209,7 +209,7 @@ faults! {
     NameOffsetKept: "the offset of a name is not renewed", "build-bench-gaps";
     MagicHasBody: "a magic link is taken for one with a body", "build-bench";
     OffsetCut8: "a written offset is cut to 8 bits", "build-many";
-    OffsetCut14: "a written offset is cut to 14 bits", "build-largest";
+    OffsetCut15: "a written offset is cut to 15 bits", "build-late";
     OffsetCut16: "the caller's offset is cut to 16 bits", "build-bench-at-65536";
     OffsetFromHeader: "a written offset is counted from the image's beginning", "build-bench";
     TotalOfText: "the header's total length is the text's", "build-smallest";

@@ -307,7 +307,7 @@ impl Lent {
         };
         let place = match self.fault {
             Some(Fault::OffsetCut8) => place & 0xFF,
-            Some(Fault::OffsetCut14) => place & 0x3FFF,
+            Some(Fault::OffsetCut15) => place & 0x7FFF,
             Some(Fault::OffsetFromHeader) => place + 20,
             _ => place,
         };
