@@ -246,6 +246,15 @@ def of_body(length):
     return t.mount(0).image()
 
 
+def of_bodies(length):
+    """Twelve links whose bodies have a length, one behind the other in the text: 0 top, 1 to 12 the links."""
+    t = Tree()
+    t.top()
+    for _ in range(12):
+        t.symlink(None, None, b"b" * length)
+    return t.mount(0).image()
+
+
 def of_name(length):
     """A name of a length in the top, for a file."""
     t = Tree()
@@ -376,6 +385,10 @@ for zero in [0, 7, 8, 56, 63, 64, 319, 320, 575, 576, 600]:
 check("rule-4-marked-far", of_marked_bodies(130, (60, 100)), broken(4, 60), "60 bodies of one text, the last 100 bytes, the zero byte 70 bytes in it")
 check("rule-4-marked-to-the-end", of_marked_bodies(130, (131, 470)), ACCEPTED, "the same, the last from the zero byte to the text's end")
 check("rule-4-body-zero-of-4095", in_text(of_body(4095), 4094, 0), broken(4, 1), "a zero byte last in a body of 4,095")
+for length in [2, 7, 8, 9, 15, 16, 17, 31, 32, 33]:
+    for at in sorted({0, length // 2, length - 1}):
+        family = f"12 bodies of {length} bytes, the last with a zero byte first, in its middle or last"
+        check(f"rule-4-body-{length}-zero-{at}", in_text(of_bodies(length), 11 * length + at, 0), broken(4, 12), "", family=family)
 
 # ---------------------------------------------------------------------------------------------------------------------------------
 group("The table check, rule 5", "Four entries: 0 and 1 in node 0, 2 and 3 in node 1.")

@@ -38,7 +38,7 @@ module _ (s : List ℕ) (bytes : (i : ℕ) → getD s i 0 < 256) where
       e = omega arith
 
   whole-part : (n : ℕ) → length s ≡ n → part s 0 n ≡ s
-  unfolding part drop
+  unfolding part
   whole-part n e = take-all n s (omega (arith, e))
 
   pub mounts-again : (c : Counts) → length s ≡ 8 * c .mounts → joinBelow (mountBytes (mountsTree c [] s)) (c .mounts) ≡ s

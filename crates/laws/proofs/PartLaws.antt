@@ -28,7 +28,6 @@ part-whole s at count h = simp (length-take, length-drop) (omega arith)
 
 -- a part that lies in a part
 inner : (l : List ℕ) (count k n : ℕ) → k + n ≤ count → take n (drop k (take count l)) ≡ take n (drop k l)
-unfolding take drop
 inner l count zero n h = take-take n count l (omega arith)
 inner [] zero (suc k) n h = refl
 inner [] (suc count) (suc k) n h = refl
