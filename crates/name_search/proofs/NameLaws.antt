@@ -24,12 +24,13 @@ use Rattle.laws.proofs.HalvingLaws.{names-ascend}
 use Rattle.laws.proofs.PartLaws.{part-get}
 use Rattle.parts.specs.declared.records.Counts.{Counts}
 use Rattle.image.specs.Counts.{Counted}
-use Rattle.strings.specs.Blocks.{SameTo, alikeBlocks}
-use Rattle.strings.specs.Orders.{ordered}
-use Rattle.strings.specs.declared.Order.{Order}
-use Rattle.strings.specs.declared.Order.the-variants.{Before, Same, After}
-use Rattle.strings.proofs.BlockLaws.{Bytes}
-use Rattle.strings.proofs.OrderLaws.{alike-same, alike-within, ordered-drop}
+use Rattle.byte_blocks.specs.Blocks.{SameTo}
+use Rattle.byte_blocks.proofs.BlockLaws.{Bytes}
+use Rattle.string_order.specs.Orders.{ordered}
+use Rattle.string_order.specs.Starts.{alikeBlocks}
+use Rattle.string_order.specs.declared.Order.{Order}
+use Rattle.string_order.specs.declared.Order.the-variants.{Before, Same, After}
+use Rattle.string_order.proofs.OrderLaws.{alike-same, alike-within, ordered-drop}
 use Rattle.name_search.specs.Halvings.{inCommon}
 
 past-end : (s : List ℕ) (i : ℕ) → length s ≤ i → getD s i 0 ≡ 0

@@ -7,7 +7,7 @@ use lib.ListN.{length}
 use Rattle.model.specs.Tree.{Tree}
 use Rattle.model.specs.Halving.{Halved}
 use Rattle.parts.specs.Searches.{searchOf}
-use Rattle.strings.specs.Blocks.{alikeBlocks}
+use Rattle.string_order.specs.Starts.{alikeBlocks}
 use Rattle.name_search.specs.declared.Halving.{Halving}
 
 abbrev pub halvingOf : Halved → Halving

@@ -1,6 +1,3 @@
-pub mod BlockLaws
-mod ReversedLaws
-mod CompareLaws
-pub mod OrderLaws
+mod SameLaws
 pub mod PartLaws
 pub mod DotLaws

@@ -1,3 +1,1 @@
-pub mod Blocks
 pub mod Dots
-pub mod Orders

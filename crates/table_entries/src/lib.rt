@@ -11,7 +11,7 @@ use parts::records::node_kind;
 use parts::records::node_parent;
 use parts::search::Search;
 use parts::texts::name;
-use strings::comes_before;
+use string_order::comes_before;
 use table_texts::sure_records;
 ghost use mathlib.Core.Bool.{true};
 ghost use mathlib.Core.List.{[]};

@@ -8,7 +8,7 @@ use Rattle.model.specs.Tree.{treeOf}
 use Rattle.model.specs.Halving.{halving}
 use Rattle.laws.proofs.Acceptance.{accepted-sound}
 use Rattle.laws.proofs.HalvingLaws.{Halves, halves-all, halves-found, halves-earlier, halves-later, halves-none}
-use Rattle.strings.specs.Orders.{ordered}
+use Rattle.string_order.specs.Orders.{ordered}
 use Rattle.name_search.specs.Halvings.{halvingOf}
 use Rattle.name_search.proofs.NameLaws.{common-within, node-inside, entries-few, name-inside, told-same, told-before, told-after, skip-fits, compared-whole}
 use Rattle.name_search.proofs.search_names.Statement.{statement}

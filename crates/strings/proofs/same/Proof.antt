@@ -3,7 +3,8 @@ use borrow.Author.Needs.{needs}
 use mathlib.Core.Path.{sym}
 use native.Mathlib.Omega.{arith}
 use Rattle.laws.proofs.StringLaws.{differing}
-use Rattle.strings.proofs.BlockLaws.{same-all, deciding-same}
+use Rattle.byte_blocks.proofs.BlockLaws.{same-all}
+use Rattle.strings.proofs.SameLaws.{deciding-same}
 use Rattle.strings.proofs.same.Statement.{statement}
 use Rattle.strings.proofs.same.Tie as tie
 

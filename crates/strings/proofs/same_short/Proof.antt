@@ -3,8 +3,9 @@ use borrow.Author.Needs.{needs}
 use mathlib.Core.Path.{sym}
 use native.Mathlib.Omega.{arith}
 use denote.Ref.{now}
-use Rattle.strings.specs.Blocks.{SameTo}
-use Rattle.strings.proofs.BlockLaws.{byte-field, loads-apart, start-same, ends-same, same-all}
+use Rattle.byte_blocks.specs.Blocks.{SameTo}
+use Rattle.byte_blocks.proofs.BlockLaws.{byte-field, same-all}
+use Rattle.strings.proofs.SameLaws.{loads-apart, start-same, ends-same}
 use Rattle.strings.proofs.same_short.Statement.{statement}
 use Rattle.strings.proofs.same_short.Tie as tie
 

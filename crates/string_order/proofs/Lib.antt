@@ -1,0 +1,3 @@
+mod DecidingLaws
+mod CompareLaws
+pub mod OrderLaws
