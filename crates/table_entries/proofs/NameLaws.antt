@@ -15,7 +15,7 @@ use Rattle.parts.specs.Parts.{entriesTree}
 use Rattle.parts.specs.declared.records.Counts.{Counts}
 use Rattle.strings.specs.Dots.{dotsOf}
 use Rattle.strings.proofs.DotLaws.{dots-none, dots-other}
-use Rattle.text_marks.specs.Barred.{holdsBarred}
+use Rattle.barred_bytes.specs.Barred.{holdsBarred}
 
 in-pairs : (a b c d : Bool) → (not a && not b && not c && not d) ≡ (not (a || b) && not (c || d))
 in-pairs true b c d = refl

@@ -1,18 +1,18 @@
 // An entry's name by itself: where it lies, how long it is, and which bytes it may not be.
+use barred_bytes::short_holds;
 use model::MOST_NAME;
 use parts::records::Counts;
 use parts::records::name_length;
 use parts::records::name_offset;
 use parts::texts::name;
 use strings::dots;
-use text_marks::bytes::short_holds;
 ghost use mathlib.Core.Bool.{true, false};
 ghost use mathlib.Core.List.{[]};
 ghost use mathlib.Core.Path.{_≡_};
 ghost use Prim.Native.Nat.{_<_};
 ghost use Rattle.model.specs.TableCheck.{nameHolds};
 ghost use Rattle.parts.specs.Parts.{entriesTree, EntryRecords};
-ghost use Rattle.text_marks.specs.Barred.{holdsBarred};
+ghost use Rattle.barred_bytes.specs.Barred.{holdsBarred};
 ghost use Rattle.table_texts.specs.Barred.{sureRecords};
 
 // Whether a zero byte or a slash stands in a name that may be known to be clean. Other names are those of small tables, and one that breaks

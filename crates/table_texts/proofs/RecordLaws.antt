@@ -16,7 +16,7 @@ use Rattle.parts.proofs.FoundLaws.{found, FirstFrom}
 use Rattle.strings.proofs.PartLaws.{not-in-part}
 use Rattle.laws.proofs.Cases.{below-or, both, neither}
 use Rattle.laws.proofs.SumLaws.{sum-grows}
-use Rattle.text_marks.specs.Barred.{holdsBarred}
+use Rattle.barred_bytes.specs.Barred.{holdsBarred}
 use Rattle.table_texts.specs.Barred.{recordSize, partStart, partLength, recordBarred, firstBarred, fewRecords, sureRecords, seenClean, longerThan, isMarked}
 
 module _ (names : Bool) (records text : List ℕ) where

@@ -9,7 +9,7 @@ use lib.ListN.{length}
 use Rattle.model.specs.Bytes.{contains}
 use Rattle.model.specs.Tree.{kindIn, firstIn, countIn, bodyIn, nameOffsetIn, nameLengthIn, nameIn}
 use Rattle.parts.proofs.FoundLaws.{found}
-use Rattle.text_marks.specs.Barred.{holdsBarred}
+use Rattle.barred_bytes.specs.Barred.{holdsBarred}
 use Rattle.table_texts.specs.Barred.{partStart, partLength, recordBarred, firstBarred, fewRecords, sureRecords}
 
 module _ (names : Bool) (records text : List ℕ) (count k : ℕ) where

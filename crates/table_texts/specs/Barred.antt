@@ -8,7 +8,7 @@ use Rattle.model.specs.Bytes.{find, part}
 use Rattle.model.specs.Tree.{kindIn, firstIn, countIn, nameOffsetIn, nameLengthIn}
 use Rattle.model.specs.TableCheck.{sumBelow}
 use Rattle.parts.specs.Searches.{foundOr}
-use Rattle.text_marks.specs.Barred.{holdsBarred}
+use Rattle.barred_bytes.specs.Barred.{holdsBarred}
 
 -- the records are entries, or nodes
 abbrev pub recordSize : Bool → ℕ

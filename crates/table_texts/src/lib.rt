@@ -1,13 +1,13 @@
 // Zero bytes and slashes in names and bodies. Most often the text has none at all. Where it has, names and bodies are read one by one; where
 // these are many or share the text, so that it would be read again and again, it is marked once instead.
+use barred_bytes::body_holds;
+use barred_bytes::holds_barred;
 use parts::lending::lend;
 use parts::records::name_length;
 use parts::records::name_offset;
 use parts::records::node_count;
 use parts::records::node_first;
 use parts::records::node_kind;
-use text_marks::bytes::body_holds;
-use text_marks::bytes::holds_barred;
 use text_marks::fill;
 use text_marks::next_barred;
 ghost use mathlib.Core.Path.{_≡_};

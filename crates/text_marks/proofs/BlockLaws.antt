@@ -14,9 +14,8 @@ use mir.Syntax.{w64}
 use mir.Val.{Fits}
 use Rattle.model.specs.Bytes.{part, contains}
 use Rattle.laws.proofs.Cases.{neither}
-use Rattle.laws.proofs.PartLaws.{part-get, part-whole}
-use Rattle.laws.proofs.StringLaws.{next, Seen, seen-hit, seen-miss, seen-all}
-use Rattle.text_marks.specs.Barred.{barred}
+use Rattle.laws.proofs.StringLaws.{next}
+use Rattle.barred_bytes.specs.Barred.{barred}
 use Rattle.text_marks.specs.Marks.{digit, marksOf, blockEnd, blockMarks}
 
 -- what a byte adds that is worth more than the first one
@@ -175,17 +174,6 @@ module _ (byte : ℕ) (text : List ℕ) where
   marks-none at (suc count) h e =
       let n = neither (eqb (getD text at 0) byte) (contains byte (part text (at + 1) count)) (sym (contains-first at count (omega arith)) ∙ e) in
       rw (n .0, marks-none (at + 1) count (omega arith) (n .1))
-
-  -- a loop looks for it in a part, and stands at i
-  module _ (at width : ℕ) (inside : at + width ≤ length text) {found : Bool} {i : ℕ} (seen : Seen byte (part text at width) found i) where
-    pub block-hit : {after : Bool} → i < width → getD text (at + i) 0 ≡ byte → after ≡ true → Seen byte (part text at width) after (i + 1)
-    block-hit h e = seen-hit seen (omega (arith, part-whole text at width inside)) (part-get text at width i h ∙ e)
-
-    pub block-miss : {after : Bool} → i < width → (getD text (at + i) 0 ≡ byte → ⊥) → after ≡ found → Seen byte (part text at width) after (i + 1)
-    block-miss h e = seen-miss seen (omega (arith, part-whole text at width inside)) (λ f. e (sym (part-get text at width i h) ∙ f))
-
-    pub block-all : width ≤ i → found ≡ contains byte (part text at width)
-    block-all h = seen-all seen (omega (arith, part-whole text at width inside))
 
 -- the marks of a block, by the kind of record
 module _ (names : Bool) (text : List ℕ) (at : ℕ) where

@@ -6,7 +6,13 @@ use mathlib.Core.Path.{_≡_}
 use lib.Count.{trailingZeros}
 use lib.Dec.{eqb, ltb}
 use lib.ListN.{length, getD}
-use Rattle.text_marks.specs.Barred.{barred, firstFrom}
+use Rattle.model.specs.Bytes.{find}
+use Rattle.parts.specs.Searches.{foundOr}
+use Rattle.barred_bytes.specs.Barred.{barred}
+
+-- the first barred byte from `at` on, below `end`, else `end`
+unfoldable pub firstFrom : Bool → List ℕ → ℕ → ℕ → ℕ
+firstFrom names text at end = foundOr end (find (λ i. barred names (getD text i 0)) at (end - at))
 
 -- what a byte that is marked or not adds to a number in binary
 abbrev pub digit : Bool → ℕ

@@ -1,12 +1,12 @@
 // The marks of one block: a bit for each of its bytes, the first one lowest, set where the byte is barred.
-use crate::bytes::is_barred;
+use barred_bytes::is_barred;
 ghost use mathlib.Core.Bool.{cond};
 ghost use mathlib.Core.Path.{_≡_};
 ghost use Prim.Native.Nat.{_+_, _-_, _≤_, _<_};
 ghost use lib.Dec.{eqb};
 ghost use lib.ListN.{length};
 ghost use Rattle.model.specs.Bytes.{part, contains};
-ghost use Rattle.text_marks.specs.Barred.{barred};
+ghost use Rattle.barred_bytes.specs.Barred.{barred};
 ghost use Rattle.text_marks.specs.Marks.{marksOf, blockMarks};
 
 const BLOCK: usize = 64;

@@ -1,7 +1,6 @@
-// Bytes that names and bodies may not hold, in a string that is read, or in a text that is marked once: a bit for each byte, by blocks of 64,
-// and for each block the first barred byte behind it. A part of a marked text is then known to be clean in a few steps, however long it is.
+// Bytes that names and bodies may not hold, in a text that is marked once: a bit for each byte, by blocks of 64, and for each block the first
+// barred byte behind it. A part of a marked text is then known to be clean in a few steps, however long it is.
 pub mod blocks;
-pub mod bytes;
 
 use crate::blocks::block_marks;
 ghost use mathlib.Core.Path.{_≡_};

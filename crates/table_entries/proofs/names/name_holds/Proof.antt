@@ -6,7 +6,7 @@ use mathlib.Core.Bool.{true}
 use native.Mathlib.Omega.{arith}
 use borrow.Author.Tests.{ltb-true}
 use denote.Ref.{now}
-use Rattle.text_marks.specs.Barred.{holdsBarred}
+use Rattle.barred_bytes.specs.Barred.{holdsBarred}
 use Rattle.table_texts.proofs.SureLaws.{sure-name}
 use Rattle.table_entries.proofs.NameLaws.{name-outside, name-empty, name-long, name-full, name-barred, name-other, name-dots}
 use Rattle.table_entries.proofs.names.name_holds.Statement.{statement}

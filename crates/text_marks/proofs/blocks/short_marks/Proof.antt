@@ -1,7 +1,7 @@
 -- `text_marks::blocks::short_marks` meets its contract. The loop's invariant: the bytes from `i` on are marked. Assumes nothing.
 use borrow.Author.Needs.{needs}
 use Prim.Native.Nat.{_≤_}
-use Rattle.text_marks.specs.Barred.{barred}
+use Rattle.barred_bytes.specs.Barred.{barred}
 use Rattle.text_marks.proofs.BlockLaws.{MarksFrom, marks-start, one-mul, one-add, one-set, one-clear, one-all}
 use Rattle.text_marks.proofs.blocks.short_marks.Statement.{statement}
 use Rattle.text_marks.proofs.blocks.short_marks.Tie as tie

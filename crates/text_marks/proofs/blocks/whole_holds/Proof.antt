@@ -5,7 +5,7 @@ use Prim.Native.Nat.{_-_}
 use mathlib.Core.Logic.{⊎-elim}
 use Rattle.model.specs.Bytes.{part}
 use Rattle.laws.proofs.StringLaws.{Seen}
-use Rattle.text_marks.proofs.BlockLaws.{block-hit, block-miss, block-all}
+use Rattle.barred_bytes.proofs.SeenLaws.{block-hit, block-miss, block-all}
 use Rattle.text_marks.proofs.blocks.whole_holds.Statement.{statement}
 use Rattle.text_marks.proofs.blocks.whole_holds.Tie as tie
 

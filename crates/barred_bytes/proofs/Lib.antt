@@ -1,0 +1,2 @@
+pub mod BarredLaws
+pub mod SeenLaws
