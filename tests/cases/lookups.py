@@ -415,6 +415,12 @@ for directory, size in [(1, 12), (2, 13)]:
     for name in ABSENT:
         call(f"walk-{size}-{name}", name, refused(ENOENT, 1, 0), at=(0, directory), family=f"`dozens`, handle (0,{directory}): names that are not there")
 call("walk-12-entry-n", "entry-n", refused(ENOENT, 1, 0), at=(0, 1))
+over(LENGTHS, "lengths")
+for file, length in enumerate([3, 4, 5, 7, 8, 9, 16], 1):
+    call(f"walk-length-{length}", "n" * length, found(0, file, 1, 0), at=(0, 0), family="`lengths`: its names of up to 16 bytes")
+    for place in range(length):
+        name = "n" * place + "m" + "n" * (length - place - 1)
+        call(f"walk-length-{length}-{place}", name, refused(ENOENT, 1, 0), at=(0, 0), family="`lengths`: each of these with `m` at one place")
 over(PLACED, "placed")
 for file, (place, *_) in enumerate(PLACES, 1):
     call(f"walk-place-{place}", at_place(place), found(0, file, 1, 0), at=(0, 0), family="`placed`: each of its names")
