@@ -21,7 +21,7 @@ use Rattle.model.specs.Build.{Parts, built, bufferAfter, builtNumbers}
 use Rattle.model.specs.declared.Built.{Built}
 use Rattle.model.specs.declared.Built.the-variants.{Written, Broken as Built-broken, Short}
 use Rattle.slots.specs.Slots.{slotsBy}
-use Rattle.descriptors.specs.Replies.{Serves}
+use Rattle.descriptor_table.specs.Replies.{Serves}
 use Rattle.ventolaire.specs.Written.{errnoNumbers, errnosFor, Writes, WritesBuilt, WritesStart, WritesReply}
 
 -- an answer has six numbers, a verdict two

@@ -2,11 +2,11 @@
 // left as it was, and 0 is returned; else it is how many numbers were written. All else that is lent stays as it was, but for the 64 slots
 // of a descriptor table, which a call that is not refused may change.
 use builder::build;
-use descriptors::close;
-use descriptors::duplicate;
+use descriptor_table::close;
+use descriptor_table::duplicate;
+use descriptor_table::set_mark;
 use descriptors::open;
 use descriptors::open_accepted;
-use descriptors::set_mark;
 use descriptors::start;
 use descriptors::start_accepted;
 use lookup::lookup;

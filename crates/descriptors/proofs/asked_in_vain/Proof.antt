@@ -1,6 +1,6 @@
 -- `descriptors::asked_in_vain` meets its contract. Assumes nothing.
 use borrow.Author.Needs.{needs}
-use Rattle.descriptors.proofs.ReplyLaws.{vain-unasked, vain-short, vain-tested}
+use Rattle.descriptors.proofs.OpenLaws.{vain-unasked, vain-short, vain-tested}
 use Rattle.descriptors.proofs.asked_in_vain.Statement.{statement}
 use Rattle.descriptors.proofs.asked_in_vain.Tie as tie
 

@@ -2,7 +2,7 @@
 use borrow.Author.Needs.{needs}
 use denote.Ref.{now}
 use Rattle.laws.proofs.Acceptance.{accepted-told}
-use Rattle.descriptors.proofs.ReplyLaws.{start-broken}
+use Rattle.descriptors.proofs.OpenLaws.{start-broken}
 use Rattle.descriptors.proofs.start.Statement.{statement}
 use Rattle.descriptors.proofs.start.Tie as tie
 

@@ -2,7 +2,7 @@
 use borrow.Author.Needs.{needs}
 use denote.Ref.{now}
 use Rattle.image.proofs.CountLaws.{header, counts}
-use Rattle.descriptors.proofs.ReplyLaws.{some-mount, start-open}
+use Rattle.descriptors.proofs.OpenLaws.{some-mount, start-open}
 use Rattle.descriptors.proofs.start_accepted.Statement.{statement}
 use Rattle.descriptors.proofs.start_accepted.Tie as tie
 

@@ -5,7 +5,7 @@ use mathlib.Core.Path.{_≡_}
 use Rattle.model.specs.Descriptors.{DescriptorCall, serve, repliesTo, slotsAfter}
 use Rattle.model.specs.declared.Reply.{Reply}
 use Rattle.slots.specs.Slots.{slotsBy}
-use Rattle.descriptors.specs.Replies.{Serves}
+use Rattle.descriptor_table.specs.Replies.{Serves}
 
 -- a call that was made: what was called, the reply, and the numbers after it
 pub record Made : Type 0 where

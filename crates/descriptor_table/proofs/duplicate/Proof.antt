@@ -1,8 +1,8 @@
--- `descriptors::duplicate` meets its contract. Assumes nothing.
+-- `descriptor_table::duplicate` meets its contract. Assumes nothing.
 use borrow.Author.Needs.{needs}
-use Rattle.descriptors.proofs.ReplyLaws.{duplicate-shut, duplicate-full, duplicate-given}
-use Rattle.descriptors.proofs.duplicate.Statement.{statement}
-use Rattle.descriptors.proofs.duplicate.Tie as tie
+use Rattle.descriptor_table.proofs.ReplyLaws.{duplicate-shut, duplicate-full, duplicate-given}
+use Rattle.descriptor_table.proofs.duplicate.Statement.{statement}
+use Rattle.descriptor_table.proofs.duplicate.Tie as tie
 
 pub duplicate-spec : {M : Type 1} → statement M
 duplicate-spec =

@@ -1,8 +1,8 @@
--- `descriptors::give` meets its contract. Assumes nothing.
+-- `descriptor_table::give` meets its contract. Assumes nothing.
 use borrow.Author.Needs.{needs}
-use Rattle.descriptors.proofs.ReplyLaws.{answer-refused, answer-full, answer-opened, fits-told}
-use Rattle.descriptors.proofs.give.Statement.{statement}
-use Rattle.descriptors.proofs.give.Tie as tie
+use Rattle.descriptor_table.proofs.ReplyLaws.{answer-refused, answer-full, answer-opened, fits-told}
+use Rattle.descriptor_table.proofs.give.Statement.{statement}
+use Rattle.descriptor_table.proofs.give.Tie as tie
 
 pub give-spec : {M : Type 1} → statement M
 give-spec =

@@ -1,9 +1,9 @@
--- `descriptors::close` meets its contract. Assumes nothing.
+-- `descriptor_table::close` meets its contract. Assumes nothing.
 use borrow.Author.Needs.{needs}
 use Prim.Native.Nat.{_<_}
-use Rattle.descriptors.proofs.ReplyLaws.{close-shut, close-done, read-below}
-use Rattle.descriptors.proofs.close.Statement.{statement}
-use Rattle.descriptors.proofs.close.Tie as tie
+use Rattle.descriptor_table.proofs.ReplyLaws.{close-shut, close-done, read-below}
+use Rattle.descriptor_table.proofs.close.Statement.{statement}
+use Rattle.descriptor_table.proofs.close.Tie as tie
 
 mul-slots : tie.Need-mul-slots
 mul-slots c =

@@ -1,9 +1,9 @@
--- `descriptors::is_directory` meets its contract. Assumes nothing.
+-- `descriptor_table::is_directory` meets its contract. Assumes nothing.
 use borrow.Author.Needs.{needs}
 use denote.Ref.{now}
-use Rattle.descriptors.proofs.ReplyLaws.{no-node, node-read}
-use Rattle.descriptors.proofs.is_directory.Statement.{statement}
-use Rattle.descriptors.proofs.is_directory.Tie as tie
+use Rattle.descriptor_table.proofs.ReplyLaws.{no-node, node-read}
+use Rattle.descriptor_table.proofs.is_directory.Statement.{statement}
+use Rattle.descriptor_table.proofs.is_directory.Tie as tie
 
 returns : tie.Need-returns
 returns c = let a = c .before .before .before .args in no-node (now (a .image)) (a .n) (c .before .u16-within .ensures) (c .if1 .taken)

@@ -10,7 +10,7 @@ use Rattle.model.specs.declared.Refusal.{Refusal}
 use Rattle.model.specs.declared.Reply.{Reply}
 use Rattle.model.specs.declared.Reply.the-variants.{Duplicated, Done, Refused}
 use Rattle.slots.specs.Slots.{slotBy, slotsBy}
-use Rattle.descriptors.specs.Sequences.{Made, InOrder}
+use Rattle.descriptor_table.specs.Sequences.{Made, InOrder}
 
 abbrev pub started : List ℕ
 started = 1 ∷ replicate 63 0

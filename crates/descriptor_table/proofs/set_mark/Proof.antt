@@ -1,10 +1,10 @@
--- `descriptors::set_mark` meets its contract. Assumes nothing.
+-- `descriptor_table::set_mark` meets its contract. Assumes nothing.
 use borrow.Author.Needs.{needs}
 use Prim.Native.Nat.{_<_}
 use mathlib.Core.Path.{refl}
-use Rattle.descriptors.proofs.ReplyLaws.{mark-shut, mark-refused, mark-fits, mark-done, read-below}
-use Rattle.descriptors.proofs.set_mark.Statement.{statement}
-use Rattle.descriptors.proofs.set_mark.Tie as tie
+use Rattle.descriptor_table.proofs.ReplyLaws.{mark-shut, mark-refused, mark-fits, mark-done, read-below}
+use Rattle.descriptor_table.proofs.set_mark.Statement.{statement}
+use Rattle.descriptor_table.proofs.set_mark.Tie as tie
 
 returns-2 : tie.Need-returns-2
 returns-2 c =

@@ -5,7 +5,7 @@ use mathlib.Core.Path.{_≡_, refl, ap, ap₂, _∙_}
 use Rattle.model.specs.Descriptors.{Slot, serve, repliesTo, slotsAfter}
 use Rattle.model.specs.declared.Reply.{Reply}
 use Rattle.slots.specs.Slots.{slotsBy}
-use Rattle.descriptors.specs.Sequences.{Made, calls, InOrder, AsTheList, AnySequence}
+use Rattle.descriptor_table.specs.Sequences.{Made, calls, InOrder, AsTheList, AnySequence}
 
 pub any-sequence : AnySequence
 unfolding repliesTo slotsAfter

@@ -12,7 +12,7 @@ use Rattle.model.specs.declared.Handle.{Handle}
 use Rattle.model.specs.declared.Reply.{Reply}
 use Rattle.laws.proofs.DescriptorLaws.{holding-not}
 use Rattle.slots.specs.Slots.{handleBy, slotBy, slotsBy}
-use Rattle.descriptors.specs.Replies.{Serves}
+use Rattle.descriptor_table.specs.Replies.{Serves}
 use Rattle.slots.proofs.SlotLaws.{slot-closed, slot-held}
 
 same-bit : (a b : ℕ) → eqb (a % 2) 1 ≡ eqb (b % 2) 1 → a % 2 ≡ b % 2
