@@ -1,8 +1,10 @@
 //! The calls of a script.
 
 use crate::options::Parts;
-use crate::{arguments, escape, words};
+use crate::{arguments, escape};
 use std::ffi::{OsStr, OsString};
+use std::os::unix::ffi::OsStringExt;
+use ventolaire::text::Words;
 use ventolaire::{Descriptors, Flags, OpenHow, Opened, Refusal};
 
 /// The calls with their operands and options.
@@ -49,7 +51,9 @@ impl Call {
         if line.is_empty() || line.starts_with(b"#") {
             return Ok(None);
         }
-        let mut words = words::split(line)?.into_iter();
+        let words = Words::of(line).map(|word| word.map(|word| OsString::from_vec(word.bytes)));
+        let words: Result<Vec<OsString>, _> = words.collect();
+        let mut words = words.map_err(|error| error.to_string())?.into_iter();
         let first = words.next().unwrap_or_default();
         let (name, wanted, options) =
             *CALLS.iter().find(|(name, ..)| first == *name).ok_or_else(|| {

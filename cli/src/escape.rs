@@ -1,74 +1,14 @@
 //! Bytes made fit to be printed.
 
 use std::ffi::OsStr;
-use std::fmt::Write;
+use ventolaire::text::Escaped;
 
-/// Bytes as text on one line, in the escapes of bash's `$'..'`: of a byte that is
-/// no text `\xff`, of a character that acts on a terminal or cannot be seen `\n`,
-/// `\x1b` or `\u202e`, of a backslash two.
+/// Bytes as text on one line.
 pub fn text(bytes: &[u8]) -> String {
-    let mut text = String::new();
-    // Writing to a string does not fail.
-    for chunk in bytes.utf8_chunks() {
-        for char in chunk.valid().chars() {
-            let number = u32::from(char);
-            let _ = match char {
-                '\\' => text.write_str("\\\\"),
-                '\n' => text.write_str("\\n"),
-                '\r' => text.write_str("\\r"),
-                '\t' => text.write_str("\\t"),
-                _ if !is_hidden(char) => text.write_char(char),
-                '\0'..='\x7f' => write!(text, "\\x{number:02x}"),
-                '\u{80}'..='\u{ffff}' => write!(text, "\\u{number:04x}"),
-                _ => write!(text, "\\U{number:08x}"),
-            };
-        }
-        for byte in chunk.invalid() {
-            let _ = write!(text, "\\x{byte:02x}");
-        }
-    }
-    text
+    Escaped(bytes).to_string()
 }
 
 /// A file's name, or an argument, to stand in a message.
 pub fn name(name: &OsStr) -> String {
     text(name.as_encoded_bytes())
-}
-
-/// Whether a character acts on a terminal or on the text around it, or leaves no
-/// trace of its own: control characters, separators of lines, what changes the
-/// direction of text, and what Unicode calls ignorable by default.
-pub fn is_hidden(char: char) -> bool {
-    char.is_control()
-        || matches!(char,
-            '\u{ad}' | '\u{34f}' | '\u{61c}' | '\u{115f}'..='\u{1160}' | '\u{17b4}'..='\u{17b5}'
-            | '\u{180b}'..='\u{180f}' | '\u{200b}'..='\u{200f}' | '\u{2028}'..='\u{202e}'
-            | '\u{2060}'..='\u{206f}' | '\u{3164}' | '\u{fe00}'..='\u{fe0f}' | '\u{feff}'
-            | '\u{ffa0}' | '\u{fff0}'..='\u{fffb}' | '\u{1bca0}'..='\u{1bca3}'
-            | '\u{1d173}'..='\u{1d17a}' | '\u{e0000}'..='\u{e0fff}')
-}
-
-#[cfg(test)]
-mod tests {
-    use super::*;
-
-    #[test]
-    fn bytes_are_made_printable() {
-        assert_eq!(text("café → 猫 🐈".as_bytes()), "café → 猫 🐈");
-        assert_eq!(text(b"a\xffb\x1b[2J\n\r\t\\"), "a\\xffb\\x1b[2J\\n\\r\\t\\\\");
-        assert_eq!(text("\0\x7f\u{9b}".as_bytes()), "\\x00\\x7f\\u009b");
-        assert_eq!(text("\u{202e}\u{200b}\u{e0041}".as_bytes()), "\\u202e\\u200b\\U000e0041");
-    }
-
-    #[test]
-    fn what_changes_directions_or_is_invisible_is_hidden() {
-        for char in
-            "\u{61c}\u{200e}\u{200f}\u{202a}\u{202d}\u{2066}\u{2069}\u{feff}\u{200d}".chars()
-        {
-            assert!(is_hidden(char), "{}", char.escape_unicode());
-        }
-        for char in " a~\u{a0}\u{e9}\u{5d0}\u{627}\u{fffd}".chars() {
-            assert!(!is_hidden(char), "{}", char.escape_unicode());
-        }
-    }
 }

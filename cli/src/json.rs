@@ -1,7 +1,7 @@
 //! JSON, written.
 
-use crate::escape::is_hidden;
 use std::fmt::{self, Display, Write};
+use ventolaire::text::is_hidden;
 use ventolaire::Place;
 
 /// An object, by the members written so far.

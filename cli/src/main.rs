@@ -21,7 +21,6 @@ mod reply;
 mod resolve;
 mod script;
 mod show;
-mod words;
 
 use arguments::{Command, Form};
 use output::{Failure, Output};

@@ -19,6 +19,7 @@ mod records;
 mod table;
 #[cfg(test)]
 mod tests;
+pub mod text;
 
 pub use answer::{Broken, Found, Opened, Refusal, UnknownBit};
 pub use bits::ParseBitsError;
