@@ -12,6 +12,8 @@ mod errno;
 mod ffi;
 mod how;
 mod lookup;
+#[cfg(feature = "std")]
+mod manifest;
 mod parts;
 mod path;
 mod place;
@@ -27,6 +29,8 @@ pub use descriptors::Descriptors;
 pub use errno::Errno;
 pub use how::{Flags, OpenHow, Resolve};
 pub use lookup::{FoundName, NameRefusal};
+#[cfg(feature = "std")]
+pub use manifest::{AsSeen, Manifest, ManifestError, Position, Problem};
 pub use parts::{BuildError, Parts};
 pub use path::AsPath;
 pub use place::{Handle, Place};

@@ -8,6 +8,8 @@
 mod cause;
 
 pub use cause::{Cause, Record};
+#[cfg(feature = "std")]
+pub(crate) use cause::{BYTES, ENTRIES, MOUNTS, NODES};
 
 use crate::{Parts, Place};
 use core::fmt;
@@ -135,6 +137,12 @@ impl<'a> Records<'a> {
         let (mounts, rest) = records(rest, [m0, m1]);
         let (entries, text) = records(rest, [e0, e1]);
         Records { nodes, mounts, entries, text }
+    }
+
+    /// The whole records of these parts.
+    pub(crate) fn of_parts(parts: &Parts<'a>) -> Self {
+        let (nodes, mounts) = (parts.nodes.as_chunks().0, parts.mounts.as_chunks().0);
+        Records { nodes, mounts, entries: parts.entries.as_chunks().0, text: parts.text }
     }
 
     /// The bytes of the records, and the text.

@@ -4,8 +4,10 @@
 //! that record, in their order, and the first that does not hold is the cause. So
 //! what is said is always true of the bytes read.
 
-use super::{entry_fields, long, mount_fields, node_fields, part, short, Records};
-use crate::Broken;
+use super::{
+    entry_fields, long, mount_fields, node_fields, part, short, Records, ENTRY, MOUNT, NODE,
+};
+use crate::{Broken, Parts};
 use core::cmp::Ordering;
 use core::fmt;
 
@@ -30,6 +32,43 @@ pub struct Cause {
     /// Words, with `{}` where a number stands.
     words: &'static str,
     numbers: [u64; 3],
+}
+
+impl Cause {
+    /// The cause of a broken rule, by the sentence found broken; else the rule's own words.
+    fn of(broken: &Broken, found: Option<Says>) -> Self {
+        let rules = ["4", "4.1", "4.2", "4.3", "4.4", "4.5", "4.6", "4.7"];
+        let Says(clause, words, numbers) = found.unwrap_or_else(|| {
+            let clause = rules.get(broken.rule as usize).unwrap_or(&rules[0]);
+            Says(clause, broken.rule_text(), [0; 3])
+        });
+        // The sum over all nodes is no node's own.
+        let record = broken.record().filter(|_| clause != "4.4h");
+        Cause { clause, record, words, numbers }
+    }
+
+    /// The words, with a name in place of "node 3" or "mount 1" wherever one is known.
+    #[cfg(feature = "std")]
+    pub(crate) fn named(&self, name: impl Fn(Record) -> Option<String>) -> String {
+        let mut words = self.words.split("{}");
+        let mut text = String::from(words.next().unwrap_or_default());
+        for (words, number) in words.zip(self.numbers) {
+            let record = match text.rsplit(' ').nth(1) {
+                Some("node") => name(Record::Node(number)),
+                Some("mount") => name(Record::Mount(number)),
+                _ => None,
+            };
+            match record {
+                Some(name) => {
+                    text.truncate(text.trim_end().rfind(' ').map_or(0, |at| at + 1));
+                    text.push_str(&name);
+                }
+                None => text.push_str(&number.to_string()),
+            }
+            text.push_str(words);
+        }
+        text
+    }
 }
 
 impl fmt::Display for Cause {
@@ -109,20 +148,41 @@ impl Broken {
             1 => length(image),
             2 => signature(image),
             3 => counts(image),
-            4 => node(parts, self.record),
-            5 => entry(parts, self.record),
-            6 => mount(parts, self.record),
-            7 => magic_link(parts, self.record),
-            _ => None,
+            _ => parts.broken(*self),
         };
-        let rules = ["4", "4.1", "4.2", "4.3", "4.4", "4.5", "4.6", "4.7"];
-        let Says(clause, words, numbers) = found.unwrap_or_else(|| {
-            let clause = rules.get(self.rule as usize).unwrap_or(&rules[0]);
-            Says(clause, self.rule_text(), [0; 3])
-        });
-        // The sum over all nodes is no node's own.
-        let record = self.record().filter(|_| clause != "4.4h");
-        Cause { clause, record, words, numbers }
+        Cause::of(self, found)
+    }
+}
+
+/// The most nodes, mounts and entries, and the most bytes.
+pub(crate) const NODES: u64 = 4_096;
+pub(crate) const MOUNTS: u64 = 256;
+pub(crate) const ENTRIES: u64 = 4_096;
+pub(crate) const BYTES: u64 = 65_536;
+
+impl Parts<'_> {
+    /// What in these parts breaks a rule, by which [`Parts::build_into`] has refused them.
+    ///
+    /// ```
+    /// use ventolaire::{bench_tree, BuildError, Parts, Table};
+    ///
+    /// let parts = Parts { text: b"", ..Table::new(bench_tree::IMAGE)?.parts() };
+    /// let Err(BuildError::Broken(broken)) = parts.build_into(&mut []) else { panic!() };
+    /// let cause = parts.cause(broken);
+    /// assert_eq!(cause.to_string(), "its body ends at byte 15 of the text, which has 0");
+    /// # Ok::<(), ventolaire::Broken>(())
+    /// ```
+    pub fn cause(&self, broken: Broken) -> Cause {
+        let records = Records::of_parts(self);
+        let found = match broken.rule {
+            1 => {
+                let words = "the image would have {} bytes, over 65,536";
+                says(records.written() > BYTES, "4.1", words, [records.written()])
+            }
+            3 => parts_counts(self, records),
+            _ => records.broken(broken),
+        };
+        Cause::of(&broken, found)
     }
 }
 
@@ -142,7 +202,7 @@ fn says<const N: usize>(
 
 fn length(image: &[u8]) -> Option<Says> {
     let len = image.len() as u64;
-    says(len > 65_536, "4.1", "the image has over 65,536 bytes", [])
+    says(len > BYTES, "4.1", "the image has over 65,536 bytes", [])
         .or_else(|| says(len < 20, "4.1", "the image has {} bytes, not 20 to 65,536", [len]))
 }
 
@@ -159,10 +219,9 @@ fn counts(image: &[u8]) -> Option<Says> {
     let [n, m, e] = [[n0, n1], [m0, m1], [e0, e1]].map(short);
     let [text, total] = [[t0, t1, t2, t3], [l0, l1, l2, l3]].map(long);
     let (sum, len) = (20 + 12 * n + 8 * m + 8 * e + text, image.len() as u64);
-    let off = |count, most| !(1..=most).contains(&count);
-    says(off(n, 4_096), "4.3", "the header counts {} nodes, not 1 to 4,096", [n])
-        .or_else(|| says(off(m, 256), "4.3", "the header counts {} mounts, not 1 to 256", [m]))
-        .or_else(|| says(e > 4_096, "4.3", "the header counts {} entries, over 4,096", [e]))
+    says(off(n, NODES), "4.3", "the header counts {} nodes, not 1 to 4,096", [n])
+        .or_else(|| says(off(m, MOUNTS), "4.3", "the header counts {} mounts, not 1 to 256", [m]))
+        .or_else(|| says(e > ENTRIES, "4.3", "the header counts {} entries, over 4,096", [e]))
         .or_else(|| {
             let words = "the header's total is {}, and what it counts has {} bytes";
             says(total != sum, "4.3", words, [total, sum])
@@ -173,7 +232,45 @@ fn counts(image: &[u8]) -> Option<Says> {
         })
 }
 
+/// Whether a count of what there must be one of at least is off.
+fn off(count: u64, most: u64) -> bool {
+    !(1..=most).contains(&count)
+}
+
+fn parts_counts(parts: &Parts, records: Records) -> Option<Says> {
+    let Records { nodes, mounts, entries, .. } = records;
+    let [n, m, e] = [nodes.len(), mounts.len(), entries.len()].map(|count| count as u64);
+    let whole = nodes.len() * NODE == parts.nodes.len()
+        && mounts.len() * MOUNT == parts.mounts.len()
+        && entries.len() * ENTRY == parts.entries.len();
+    says(off(n, NODES), "4.3", "there are {} nodes, not 1 to 4,096", [n])
+        .or_else(|| says(off(m, MOUNTS), "4.3", "there are {} mounts, not 1 to 256", [m]))
+        .or_else(|| says(e > ENTRIES, "4.3", "there are {} entries, over 4,096", [e]))
+        .or_else(|| says(!whole, "4.3", "a record is cut short", []))
+}
+
 impl<'a> Records<'a> {
+    /// The sentence that a record breaks.
+    fn broken(self, broken: Broken) -> Option<Says> {
+        match broken.rule {
+            4 => node(self, broken.record),
+            5 => entry(self, broken.record),
+            6 => mount(self, broken.record),
+            7 => magic_link(self, broken.record),
+            _ => None,
+        }
+    }
+
+    /// How long the image of these records is, by the lengths that they give.
+    fn written(self) -> u64 {
+        let Records { nodes, mounts, entries, .. } = self;
+        let records = NODE * nodes.len() + MOUNT * mounts.len() + ENTRY * entries.len();
+        let names: u64 = entries.iter().map(|record| entry_fields(record)[1]).sum();
+        let fields = nodes.iter().map(node_fields);
+        let bodies = fields.filter(|[kind, ..]| *kind == 3).map(|[.., count]| count);
+        20 + records as u64 + names + bodies.sum::<u64>()
+    }
+
     fn fields(self, node: u64) -> Option<[u64; 4]> {
         self.nodes.get(usize::try_from(node).ok()?).map(node_fields)
     }

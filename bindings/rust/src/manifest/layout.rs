@@ -1,0 +1,296 @@
+//! What a manifest describes, put together: who names what, and what hangs where.
+
+use super::object::{is_name, Object};
+use super::{Item, Kind, Line, Manifest, ManifestError, Position, Problem};
+use std::collections::hash_map::{Entry as Slot, HashMap};
+
+/// Nodes and mounts, in the order in which they are described. What speaks of one has its place in
+/// these lists.
+pub(super) struct Layout<'a> {
+    /// The main tree's top first.
+    pub nodes: Vec<Node<'a>>,
+    /// Mount 0 first.
+    pub mounts: Vec<Mount<'a>>,
+}
+
+pub(super) struct Node<'a> {
+    pub at: At<'a>,
+    pub kind: &'a Kind,
+    /// Of a directory, but for the top of a tree.
+    pub parent: Option<usize>,
+    /// What it names, in ascending order of the names.
+    pub entries: Vec<Entry<'a>>,
+    /// The directories without a name in it, in their order.
+    pub nameless: Vec<usize>,
+    /// Of a magic link, the mount and the node that it leads to.
+    pub target: (usize, usize),
+}
+
+pub(super) struct Entry<'a> {
+    pub at: At<'a>,
+    pub name: &'a [u8],
+    pub node: usize,
+}
+
+pub(super) struct Mount<'a> {
+    /// By its point.
+    pub at: At<'a>,
+    pub root: usize,
+    pub parent: usize,
+    pub point: usize,
+}
+
+/// Of which object something is said, and where.
+#[derive(Clone, Copy)]
+pub(super) struct At<'a> {
+    pub path: &'a [u8],
+    pub position: Option<Position>,
+}
+
+impl At<'_> {
+    pub fn error(self, problem: Problem) -> ManifestError {
+        ManifestError { position: self.position, path: self.path.to_vec(), problem }
+    }
+}
+
+impl Node<'_> {
+    pub fn is_directory(&self) -> bool {
+        matches!(self.kind, Kind::Directory(_))
+    }
+
+    /// The order of what has no name: as their names in the manifest, shorter ones first.
+    pub fn rank(&self) -> (usize, &[u8]) {
+        (self.at.path.len(), self.at.path)
+    }
+}
+
+impl Line {
+    /// The object that is described: of a mount its point.
+    fn at(&self) -> At<'_> {
+        let object = match &self.item {
+            Item::Node { object, .. } | Item::Hard { object, .. } | Item::Root { object } => object,
+            Item::Mount { point, .. } => point,
+        };
+        At { path: object.bytes(), position: self.position }
+    }
+
+    /// All that it speaks of.
+    fn objects(&self) -> [Option<&Object>; 2] {
+        match &self.item {
+            Item::Node { object, kind: Kind::Directory(parent) } => [Some(object), parent.as_ref()],
+            Item::Node { object, kind: Kind::Magic { target, .. } } => [Some(object), Some(target)],
+            Item::Node { object, .. } | Item::Root { object } => [Some(object), None],
+            Item::Hard { object, other } => [Some(object), Some(other)],
+            Item::Mount { root, point, .. } => [Some(root), Some(point)],
+        }
+    }
+}
+
+static DIRECTORY: Kind = Kind::Directory(None);
+
+impl<'a> Layout<'a> {
+    pub fn of(manifest: &'a Manifest) -> Result<Self, ManifestError> {
+        let lines = &manifest.lines;
+        for line in lines {
+            if let Some(object) = line.objects().into_iter().flatten().find(|o| !o.is_path()) {
+                let at = At { path: object.bytes(), position: line.position };
+                return Err(at.error(Problem::NoPath));
+            }
+        }
+        let known = Known::of(lines)?;
+        let mut layout = Layout { nodes: known.nodes(lines), mounts: Vec::new() };
+        for line in lines {
+            layout.put(line, &known)?;
+        }
+        for node in &mut layout.nodes {
+            node.entries.sort_by_key(|entry| entry.name);
+        }
+        layout.sort_nameless();
+        layout.hang(lines, &known)?;
+        Ok(layout)
+    }
+
+    /// Puts what a line describes into its parent.
+    fn put(&mut self, line: &'a Line, known: &Known<'a>) -> Result<(), ManifestError> {
+        let (object, node) = match &line.item {
+            Item::Node { object, .. } => (object, known.node(line, object.bytes())?),
+            Item::Hard { object, other } => (object, known.node(line, other.bytes())?),
+            _ => return Ok(()),
+        };
+        let parent = match &line.item {
+            Item::Node { kind: Kind::Directory(parent), .. } => parent.as_ref(),
+            _ => None,
+        };
+        match (object.named(), parent) {
+            (Some(_), Some(_)) => return Err(line.at().error(Problem::Parents)),
+            (Some((directory, name)), None) => {
+                let parent = self.directory(line, directory, known)?;
+                self.nodes[parent].entries.push(Entry { at: line.at(), name, node });
+                if matches!(line.item, Item::Node { .. }) && self.nodes[node].is_directory() {
+                    self.nodes[node].parent = Some(parent);
+                }
+            }
+            (None, Some(parent)) => {
+                let parent = self.directory(line, parent.bytes(), known)?;
+                self.nodes[node].parent = Some(parent);
+                self.nodes[parent].nameless.push(node);
+            }
+            (None, None) => {}
+        }
+        Ok(())
+    }
+
+    /// The directory of a path.
+    fn directory(&self, line: &Line, path: &[u8], known: &Known) -> Result<usize, ManifestError> {
+        let problem = match known.by_path.get(path) {
+            Some(Said::Node(node)) if self.nodes[*node].is_directory() => return Ok(*node),
+            Some(Said::Node(_)) => Problem::NotDirectory(path.to_vec()),
+            Some(Said::Hard(_)) => Problem::SecondName(path.to_vec()),
+            None => Problem::NoDirectory(path.to_vec()),
+        };
+        Err(line.at().error(problem))
+    }
+
+    fn sort_nameless(&mut self) {
+        let mut lists: Vec<Vec<usize>> =
+            self.nodes.iter_mut().map(|node| std::mem::take(&mut node.nameless)).collect();
+        lists.iter_mut().for_each(|list| list.sort_by_key(|node| self.nodes[*node].rank()));
+        for (node, list) in self.nodes.iter_mut().zip(lists) {
+            node.nameless = list;
+        }
+    }
+
+    /// Makes the mounts, and leads magic links to their targets.
+    fn hang(&mut self, lines: &'a [Line], known: &Known<'a>) -> Result<(), ManifestError> {
+        let root = lines.iter().find(|line| matches!(line.item, Item::Root { .. }));
+        let (at, shown) = match root {
+            Some(line) => (line.at(), known.node(line, line.at().path)?),
+            None => (At { path: b"", position: None }, 0),
+        };
+        self.mounts.push(Mount { at, root: shown, parent: 0, point: shown });
+        for line in lines {
+            match &line.item {
+                Item::Mount { root, point, parent, .. } => self.mounts.push(Mount {
+                    at: line.at(),
+                    root: known.node(line, root.bytes())?,
+                    parent: known.mount(line, parent)?,
+                    point: known.node(line, point.bytes())?,
+                }),
+                Item::Node { object, kind: Kind::Magic { target, mount } } => {
+                    let target = (known.mount(line, mount)?, known.node(line, target.bytes())?);
+                    self.nodes[known.node(line, object.bytes())?].target = target;
+                }
+                _ => {}
+            }
+        }
+        Ok(())
+    }
+}
+
+/// What the lines describe, by path and by name.
+struct Known<'a> {
+    by_path: HashMap<&'a [u8], Said<'a>>,
+    mounts: HashMap<&'a str, usize>,
+}
+
+enum Said<'a> {
+    Node(usize),
+    /// A second name of this.
+    Hard(&'a Object),
+}
+
+impl<'a> Known<'a> {
+    fn of(lines: &'a [Line]) -> Result<Self, ManifestError> {
+        let mut known = Known { by_path: HashMap::new(), mounts: HashMap::new() };
+        known.by_path.insert(b"", Said::Node(0));
+        // Of what is described, where it first was.
+        let mut first: HashMap<&[u8], Option<Position>> = HashMap::new();
+        let (mut nodes, mut mounts, mut root) = (1, 1, None);
+        for line in lines {
+            let at = line.at();
+            let said = match &line.item {
+                Item::Node { .. } if at.path.is_empty() => Said::Node(0),
+                Item::Node { .. } => {
+                    nodes += 1;
+                    Said::Node(nodes - 1)
+                }
+                Item::Hard { other, .. } => Said::Hard(other),
+                Item::Root { .. } => match root.replace(line.position) {
+                    Some(first) => return Err(at.error(Problem::Twice(first))),
+                    None => continue,
+                },
+                Item::Mount { name, .. } => {
+                    known.name_mount(at, name.as_deref(), mounts)?;
+                    mounts += 1;
+                    continue;
+                }
+            };
+            match first.entry(at.path) {
+                Slot::Occupied(first) => return Err(at.error(Problem::Twice(*first.get()))),
+                Slot::Vacant(first) => first.insert(line.position),
+            };
+            known.by_path.insert(at.path, said);
+        }
+        Ok(known)
+    }
+
+    fn name_mount(
+        &mut self,
+        at: At,
+        name: Option<&'a str>,
+        number: usize,
+    ) -> Result<(), ManifestError> {
+        let problem = match name {
+            None => return Ok(()),
+            Some(name) if !is_name(name.as_bytes()) => Problem::NoName(name.into()),
+            Some(name) => match self.mounts.insert(name, number) {
+                None => return Ok(()),
+                Some(_) => Problem::MountTwice(name.into()),
+            },
+        };
+        Err(at.error(problem))
+    }
+
+    /// The nodes, with nothing in them yet.
+    fn nodes(&self, lines: &'a [Line]) -> Vec<Node<'a>> {
+        let node = |at, kind| Node {
+            at,
+            kind,
+            parent: None,
+            entries: Vec::new(),
+            nameless: Vec::new(),
+            target: (0, 0),
+        };
+        let mut nodes = vec![node(At { path: b"", position: None }, &DIRECTORY)];
+        for line in lines {
+            match &line.item {
+                Item::Node { kind, .. } if line.at().path.is_empty() => {
+                    nodes[0] = node(line.at(), kind);
+                }
+                Item::Node { kind, .. } => nodes.push(node(line.at(), kind)),
+                _ => {}
+            }
+        }
+        nodes
+    }
+
+    /// The node of a path, which may be a second name of it.
+    fn node(&self, line: &Line, path: &[u8]) -> Result<usize, ManifestError> {
+        let (path, said) = match self.by_path.get(path) {
+            Some(Said::Hard(other)) => (other.bytes(), self.by_path.get(other.bytes())),
+            said => (path, said),
+        };
+        let problem = match said {
+            Some(Said::Node(node)) => return Ok(*node),
+            Some(Said::Hard(_)) => Problem::SecondName(path.to_vec()),
+            None => Problem::NoObject(path.to_vec()),
+        };
+        Err(line.at().error(problem))
+    }
+
+    fn mount(&self, line: &Line, name: &Option<String>) -> Result<usize, ManifestError> {
+        let Some(name) = name else { return Ok(0) };
+        let mount = self.mounts.get(name.as_str()).copied();
+        mount.ok_or_else(|| line.at().error(Problem::NoMount(name.clone())))
+    }
+}
