@@ -41,7 +41,7 @@ _ventolaire() {
     local word=${COMP_WORDS[COMP_CWORD]} before=${COMP_WORDS[COMP_CWORD - 1]} options
     COMPREPLY=()
     if [ "$COMP_CWORD" -eq 1 ]; then
-        _ventolaire_words '' "$word" 'check show resolve lookup canonical script demo --help -h --version -V'
+        _ventolaire_words '' "$word" 'check show build pack resolve lookup canonical script demo --help -h --version -V'
         return
     fi
     # bash makes --flag=PATH three words: the option, the sign, the value.
@@ -53,7 +53,9 @@ _ventolaire() {
     _ventolaire_value "$before" "$word" && return
     case ${COMP_WORDS[1]} in
     check | script | demo) options='--json' ;;
-    show) options='--dot --json' ;;
+    show) options='--manifest --dot --json' ;;
+    build) options='-o --output --force --json' ;;
+    pack) options='--mounts -o --output --force --json' ;;
     resolve) options='--handle --mark --flag --resolve --how --paths-from -0 --null --json' ;;
     lookup) options='--names-from -0 --null --json' ;;
     canonical) options='-o --output --force --check --json' ;;

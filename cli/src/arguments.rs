@@ -1,5 +1,6 @@
 //! What the arguments ask for.
 
+use crate::destination::Destination;
 use crate::options::Parts;
 use crate::{escape, input, place};
 use std::ffi::{OsStr, OsString};
@@ -13,6 +14,8 @@ pub enum Command {
     Resolve(Query),
     Lookup(Lookup),
     Canonical(Canonical),
+    Build(Build),
+    Pack(Pack),
     Script { image: OsString, calls: OsString, json: bool },
     Demo { file: Option<OsString>, json: bool },
 }
@@ -20,6 +23,7 @@ pub enum Command {
 /// In what form a table is shown.
 pub enum Form {
     Text,
+    Manifest,
     Dot,
     Json,
 }
@@ -49,8 +53,21 @@ pub struct Canonical {
 /// What is done with the one image of a tree.
 pub enum Goal {
     Check { json: bool },
-    Print,
-    Write { file: OsString, force: bool },
+    Write(Destination),
+}
+
+pub struct Build {
+    pub manifest: OsString,
+    pub to: Destination,
+    pub json: bool,
+}
+
+pub struct Pack {
+    pub directory: OsString,
+    /// Whether what is mounted below becomes a mount.
+    pub mounts: bool,
+    pub to: Destination,
+    pub json: bool,
 }
 
 /// Paths or names, to be answered one by one.
@@ -72,7 +89,9 @@ pub enum Source {
 /// The commands with their options.
 const COMMANDS: &[(&str, &[&str])] = &[
     ("check", &["--json"]),
-    ("show", &["--dot", "--json"]),
+    ("show", &["--manifest", "--dot", "--json"]),
+    ("build", &["--output", "--force", "--json"]),
+    ("pack", &["--output", "--force", "--mounts", "--json"]),
     (
         "resolve",
         &["--handle", "--mark", "--flag", "--resolve", "--how", "--paths-from", "--null", "--json"],
@@ -114,8 +133,10 @@ pub fn read(mut arguments: impl Iterator<Item = OsString>) -> Result<Command, St
     parts.allow(command, options)?;
     let json = parts.has("--json");
     match command {
-        "check" => Ok(Command::Check { image: only(command, &parts)?, json }),
-        "show" => Ok(Command::Show { image: only(command, &parts)?, form: form(&parts)? }),
+        "check" => Ok(Command::Check { image: only(command, "IMAGE", &parts)?, json }),
+        "show" => Ok(Command::Show { image: only(command, "IMAGE", &parts)?, form: form(&parts)? }),
+        "build" => build(&parts).map(Command::Build),
+        "pack" => pack(&parts).map(Command::Pack),
         "lookup" => lookup(&parts).map(Command::Lookup),
         "canonical" => canonical(&parts).map(Command::Canonical),
         "script" => script(&parts),
@@ -125,9 +146,9 @@ pub fn read(mut arguments: impl Iterator<Item = OsString>) -> Result<Command, St
 }
 
 /// The one operand of a command.
-fn only(command: &str, parts: &Parts) -> Result<OsString, String> {
+fn only(command: &str, operand: &str, parts: &Parts) -> Result<OsString, String> {
     match &parts.operands[..] {
-        [] => Err(format!("{command} wants IMAGE")),
+        [] => Err(format!("{command} wants {operand}")),
         [image] => Ok(image.clone()),
         [_, surplus, ..] => Err(format!("{command} has no use for {}", escape::name(surplus))),
     }
@@ -135,11 +156,44 @@ fn only(command: &str, parts: &Parts) -> Result<OsString, String> {
 
 fn form(parts: &Parts) -> Result<Form, String> {
     parts.exclude("--dot", "--json")?;
-    Ok(match (parts.has("--dot"), parts.has("--json")) {
-        (true, _) => Form::Dot,
-        (_, true) => Form::Json,
+    parts.exclude("--manifest", "--dot")?;
+    parts.exclude("--manifest", "--json")?;
+    Ok(match [parts.has("--manifest"), parts.has("--dot"), parts.has("--json")] {
+        [true, ..] => Form::Manifest,
+        [_, true, _] => Form::Dot,
+        [.., true] => Form::Json,
         _ => Form::Text,
     })
+}
+
+fn build(parts: &Parts) -> Result<Build, String> {
+    let (manifest, to) = (only("build", "MANIFEST", parts)?, destination(parts)?);
+    Ok(Build { manifest, json: summary(parts)?, to })
+}
+
+fn pack(parts: &Parts) -> Result<Pack, String> {
+    let (directory, to) = (only("pack", "DIRECTORY", parts)?, destination(parts)?);
+    Ok(Pack { directory, mounts: parts.has("--mounts"), json: summary(parts)?, to })
+}
+
+/// Where an image is to be written to.
+fn destination(parts: &Parts) -> Result<Destination, String> {
+    match (parts.value("--output"), parts.has("--force")) {
+        (Some(file), _) if input::is_stdin(file) => {
+            Err("--output wants a file; write ./- for one of that name".into())
+        }
+        (None, true) => Err("--force wants --output".into()),
+        (None, false) => Ok(Destination::Output),
+        (Some(file), force) => Ok(Destination::File { file: file.clone(), force }),
+    }
+}
+
+/// Whether what is written is told in JSON. Where an image is printed, nothing else is.
+fn summary(parts: &Parts) -> Result<bool, String> {
+    match (parts.has("--json"), parts.value("--output")) {
+        (true, None) => Err("--json wants --output".into()),
+        (json, _) => Ok(json),
+    }
 }
 
 fn script(parts: &Parts) -> Result<Command, String> {
@@ -158,25 +212,21 @@ fn script(parts: &Parts) -> Result<Command, String> {
 }
 
 fn canonical(parts: &Parts) -> Result<Canonical, String> {
-    let image = only("canonical", parts)?;
+    let image = only("canonical", "IMAGE", parts)?;
     parts.exclude("--check", "--output")?;
-    let goal = match (parts.value("--output"), parts.has("--check")) {
-        (Some(file), _) if input::is_stdin(file) => {
-            return Err("--output wants a file; write ./- for one of that name".into());
-        }
-        (None, _) if parts.has("--force") => return Err("--force wants --output".into()),
-        (_, false) if parts.has("--json") => return Err("--json wants --check".into()),
-        (_, true) => Goal::Check { json: parts.has("--json") },
-        (None, _) => Goal::Print,
-        (Some(file), _) => Goal::Write { file: file.clone(), force: parts.has("--force") },
-    };
-    Ok(Canonical { image, goal })
+    let to = destination(parts)?;
+    let json = parts.has("--json");
+    match parts.has("--check") {
+        true => Ok(Canonical { image, goal: Goal::Check { json } }),
+        false if json => Err("--json wants --check".into()),
+        false => Ok(Canonical { image, goal: Goal::Write(to) }),
+    }
 }
 
 fn demo_file(parts: &Parts) -> Result<Option<OsString>, String> {
     match parts.operands.is_empty() {
         true => Ok(None),
-        false => match only("demo", parts)? {
+        false => match only("demo", "IMAGE", parts)? {
             file if input::is_stdin(&file) => {
                 Err("demo writes its image to a file; write ./- for one of that name".into())
             }

@@ -2,33 +2,26 @@
 
 use crate::arguments::{Canonical, Goal};
 use crate::explain::{self, Explained};
+use crate::input;
 use crate::json::Object;
 use crate::output::{Failure, Output};
-use crate::{escape, file, input};
-use std::ffi::OsStr;
 use std::fmt;
-use std::io::{self, IsTerminal};
 use ventolaire::{Broken, BuildError, Parts, Table};
 
 pub fn run(asked: &Canonical, output: &mut Output) -> Result<(), Failure> {
-    if matches!(asked.goal, Goal::Print) && io::stdout().is_terminal() {
-        let why = "an image is not printed to a terminal; give --output FILE, or a pipe";
-        return Err(Failure::Message(why.into()));
+    if let Goal::Write(to) = &asked.goal {
+        to.check()?;
     }
     let image = input::image(&asked.image)?;
     let mut buffer = vec![0; Parts::IMAGE_MAX];
     let tables = build(&image, &mut buffer);
-    let (file, force) = match &asked.goal {
+    let to = match &asked.goal {
         Goal::Check { json } => return check(tables, *json, output),
-        Goal::Print => (None, false),
-        Goal::Write { file, force } => (Some(file), *force),
+        Goal::Write(to) => to,
     };
     let Tables { built, .. } =
         tables.map_err(|why| format!("cannot write {} anew: {why}", input::shown(&asked.image)))?;
-    match file {
-        Some(file) => write(file, force, built),
-        None => output.write(built.image()),
-    }
+    to.write(built.image(), output)
 }
 
 fn check(tables: Result<Tables, Without>, json: bool, output: &mut Output) -> Result<(), Failure> {
@@ -71,20 +64,6 @@ fn build<'a>(image: &'a [u8], buffer: &'a mut [u8]) -> Result<Tables<'a>, Withou
     let given = explain::table(image).map_err(Without::Refused)?;
     let built = given.parts().build_into(buffer).map_err(Without::Built)?;
     Ok(Tables { given, built })
-}
-
-fn write(file: &OsStr, force: bool, built: Table) -> Result<(), Failure> {
-    let written = match force {
-        true => file::replace(file, built.image()),
-        false => file::create(file, built.image()),
-    };
-    written.map_err(|error| {
-        let hint = match error.kind() {
-            io::ErrorKind::AlreadyExists => "; --force replaces a file",
-            _ => "",
-        };
-        format!("cannot write {}: {error}{hint}", escape::name(file)).into()
-    })
 }
 
 /// Whether an image is the one of its tree.

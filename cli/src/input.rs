@@ -1,4 +1,4 @@
-//! Images, lists of paths or names, and scripts, from files or standard input.
+//! Images, manifests, lists of paths or names, and scripts, from files or standard input.
 
 use crate::escape;
 use std::ffi::OsStr;
@@ -10,6 +10,9 @@ use std::time::{Duration, Instant};
 
 /// How long an image may be.
 const MAX_IMAGE: u64 = 65_536;
+
+/// How long a manifest may be: more than that of any image, whose paths stand in it whole.
+const MAX_MANIFEST: u64 = 1 << 28;
 
 /// How long a path or name in a list or a line of a script may be: more than any path
 /// that can be found, each byte of it escaped, so that long ones are refused by name,
@@ -26,9 +29,24 @@ pub fn is_stdin(file: &OsStr) -> bool {
 
 /// The bytes of an image. Of one that is too long, no more than shows that.
 pub fn image(file: &OsStr) -> Result<Vec<u8>, String> {
+    bytes(file, MAX_IMAGE + 1)
+}
+
+/// The bytes of a manifest.
+pub fn manifest(file: &OsStr) -> Result<Vec<u8>, String> {
+    match bytes(file, MAX_MANIFEST + 1)? {
+        long if long.len() as u64 > MAX_MANIFEST => {
+            Err(format!("cannot read {}: it has over 256 MiB", shown(file)))
+        }
+        bytes => Ok(bytes),
+    }
+}
+
+/// All bytes, or the first ones of more than so many.
+fn bytes(file: &OsStr, most: u64) -> Result<Vec<u8>, String> {
     let mut bytes = Vec::new();
     open(file)
-        .and_then(|opened| opened.take(MAX_IMAGE + 1).read_to_end(&mut bytes))
+        .and_then(|opened| opened.take(most).read_to_end(&mut bytes))
         .map_err(|error| unreadable(file, &error))?;
     Ok(bytes)
 }

@@ -3,9 +3,11 @@
 mod answer;
 mod arguments;
 mod asked;
+mod build;
 mod call;
 mod canonical;
 mod demo;
+mod destination;
 mod dot;
 mod escape;
 mod explain;
@@ -14,8 +16,10 @@ mod input;
 mod json;
 mod list;
 mod lookup;
+mod manifest;
 mod options;
 mod output;
+mod pack;
 mod place;
 mod reply;
 mod resolve;
@@ -53,6 +57,8 @@ fn run(command: Command, output: &mut Output) -> Result<(), Failure> {
         Command::Resolve(query) => resolve::run(&query, output),
         Command::Lookup(lookup) => lookup::run(&lookup, output),
         Command::Canonical(asked) => canonical::run(&asked, output),
+        Command::Build(asked) => build::run(&asked, output),
+        Command::Pack(asked) => pack::run(&asked, output),
         Command::Script { image, calls, json } => script::run(&image, &calls, json, output),
         Command::Demo { file, json } => demo::run(file.as_deref(), json, output),
     }
@@ -75,6 +81,7 @@ fn show(file: &OsStr, form: Form, output: &mut Output) -> Result<(), Failure> {
         .map_err(|why| format!("cannot show {}: {why}", escape::name(file)))?;
     match form {
         Form::Text => output.write(show::tree(&table)),
+        Form::Manifest => manifest::write(&table, output),
         Form::Dot => output.write(dot::graph(&table)),
         Form::Json => output.line(list::table(&table)),
     }

@@ -18,6 +18,7 @@ const fn known(name: &'static str, letter: &'static str, wants_value: bool) -> K
 const OPTIONS: &[Known] = &[
     known("--help", "-h", false),
     known("--json", "", false),
+    known("--manifest", "", false),
     known("--dot", "", false),
     known("--handle", "", true),
     known("--mark", "", false),
@@ -29,6 +30,7 @@ const OPTIONS: &[Known] = &[
     known("--null", "-0", false),
     known("--output", "-o", true),
     known("--force", "", false),
+    known("--mounts", "", false),
     known("--check", "", false),
 ];
 

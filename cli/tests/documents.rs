@@ -10,7 +10,8 @@ use ventolaire::bench_tree::IMAGE;
 
 const PAGE: &str = include_str!("../../docs/man/ventolaire.1");
 const COMPLETION: &str = include_str!("../../completions/ventolaire.bash");
-const COMMANDS: [&str; 7] = ["check", "show", "resolve", "lookup", "canonical", "script", "demo"];
+const COMMANDS: [&str; 9] =
+    ["check", "show", "build", "pack", "resolve", "lookup", "canonical", "script", "demo"];
 
 fn file(name: &str) -> PathBuf {
     Path::new(env!("CARGO_MANIFEST_DIR")).join("..").join(name)
@@ -56,7 +57,9 @@ fn man_page_and_completion_name_every_option() {
 fn the_man_page_has_the_version_and_every_section() {
     let title = format!("\"ventolaire {}\"", env!("CARGO_PKG_VERSION"));
     assert!(PAGE.lines().next().unwrap().contains(&title));
-    for section in ["NAME", "SYNOPSIS", "OPTIONS", "SCRIPTS", "JSON", "EXIT STATUS", "EXAMPLES"] {
+    for section in
+        ["NAME", "SYNOPSIS", "OPTIONS", "MANIFESTS", "SCRIPTS", "JSON", "EXIT STATUS", "EXAMPLES"]
+    {
         let plain = format!(".SH {section}\n");
         assert!(PAGE.contains(&plain), "{section}");
     }
@@ -126,7 +129,11 @@ fn the_completion_completes() {
         (&["s"], &["show", "script"]),
         (&["--v"], &["--version"]),
         (&["show", "Cargo.t"], &["Cargo.toml"]),
-        (&["show", "x", "--"], &["--dot", "--json", "--help"]),
+        (&["show", "x", "--"], &["--manifest", "--dot", "--json", "--help"]),
+        (&["build", "Cargo.t"], &["Cargo.toml"]),
+        (&["build", "x", "--"], &["--output", "--force", "--json", "--help"]),
+        (&["pack", "x", "--mo"], &["--mounts"]),
+        (&["pack", "x", "-o", "Cargo.t"], &["Cargo.toml"]),
         (&["resolve", "x", "--pa"], &["--paths-from"]),
         (&["resolve", "x", "--flag", "O_D"], &["O_DIRECTORY"]),
         (&["resolve", "x", "--flag", "=", "O_D"], &["O_DIRECTORY"]),
@@ -154,4 +161,48 @@ fn the_completion_completes() {
     }
     assert_eq!(completed(&["resolve", "x", "--flag", "="]).len(), 4);
     assert_eq!(completed(&["resolve", "x", "--resolve", ""]).len(), 5);
+}
+
+/// The commands that a part of README shows, each with the lines that it prints.
+fn shown(section: &str) -> Vec<(String, String)> {
+    let readme = std::fs::read_to_string(file("README.md")).unwrap();
+    let (_, part) = readme.split_once(&format!("\n## {section}\n")).unwrap();
+    let part = part.split("\n## ").next().unwrap();
+    let mut commands = Vec::new();
+    for line in part.lines().filter_map(|line| line.strip_prefix("    ")) {
+        match (line.strip_prefix("$ "), commands.last_mut()) {
+            (Some(command), _) => commands.push((command.to_string(), String::new())),
+            (None, Some((_, printed))) => printed.extend([line, "\n"]),
+            (None, None) => panic!("{line}"),
+        }
+    }
+    commands
+}
+
+/// What README shows in these parts is printed, but for the width of blanks.
+#[test]
+fn readme_is_true() {
+    let folder = Named::new();
+    std::fs::create_dir(&folder.0).unwrap();
+    std::fs::copy(file("README.md"), folder.0.join("README.md")).unwrap();
+    let program = Path::new(env!("CARGO_BIN_EXE_ventolaire")).parent().unwrap();
+    let path = format!("{}:{}", program.display(), std::env::var("PATH").unwrap());
+    let commands = [shown("First minutes"), shown("The program")].concat();
+    assert!(commands.len() >= 15, "{commands:?}");
+    for (command, printed) in commands {
+        if let Some(file) = command.strip_prefix("cat ") {
+            std::fs::write(folder.0.join(file), printed).unwrap();
+            continue;
+        }
+        let mut shell = Command::new("sh");
+        let shell = shell.args(["-c", &format!("{command} 2>&1")]).env("PATH", &path);
+        let output = shell.current_dir(&folder.0).output().unwrap();
+        let got = String::from_utf8(output.stdout).unwrap();
+        let blanks = |text: &str| text.split_whitespace().collect::<Vec<_>>().join(" ");
+        // The demo's own answers are tested elsewhere, and so is what is shown of the bench tree.
+        if !printed.is_empty() || !["demo", "show"].iter().any(|word| command.contains(word)) {
+            assert_eq!(blanks(&got), blanks(&printed), "{command}");
+        }
+    }
+    std::fs::remove_dir_all(&folder.0).unwrap();
 }

@@ -16,9 +16,9 @@ use core::fmt;
 use core::iter::{Enumerate, FusedIterator};
 use core::slice::Iter;
 
-const NODE: usize = 12;
+pub(crate) const NODE: usize = 12;
 const MOUNT: usize = 8;
-const ENTRY: usize = 8;
+pub(crate) const ENTRY: usize = 8;
 
 /// What a node is.
 ///

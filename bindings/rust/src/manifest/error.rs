@@ -1,4 +1,5 @@
 use super::object::Path;
+use crate::text::Quoted;
 use crate::{Broken, Errno, Record};
 use std::error::Error;
 use std::fmt;
@@ -78,6 +79,8 @@ pub enum Problem {
     NotDirectory(Vec<u8>),
     /// A parent is given to what has a name, and so has one.
     Parents,
+    /// It is to be a second name, and is none in any directory.
+    Nameless,
     /// It speaks of this object, which nothing describes.
     NoObject(Vec<u8>),
     /// It speaks of this, which is a second name, where a first one is wanted.
@@ -107,9 +110,12 @@ impl fmt::Display for ManifestError {
         if let Some(position) = self.position {
             write!(f, "{position}: ")?;
         }
-        // What a line in a text should be says itself where.
-        if !matches!(self.problem, Problem::Unexpected { .. }) {
-            write!(f, "{}: ", Path(&self.path))?;
+        match (&self.problem, &self.path[..]) {
+            // Of no object yet.
+            (Problem::Unexpected { .. }, _) => {}
+            // A tree's name has its colon.
+            (_, path @ [.., b':']) if !path.contains(&b'/') => write!(f, "{} ", Path(path))?,
+            (_, path) => write!(f, "{}: ", Path(path))?,
         }
         write!(f, "{}", self.problem)
     }
@@ -121,16 +127,18 @@ impl fmt::Display for Problem {
             Problem::Unexpected { expected, found } => write!(f, "expected {expected}, {found}"),
             Problem::NoPath => f.write_str("it begins with no / and with no tree's name and :"),
             Problem::NoName(name) => {
-                write!(f, "a mount's name has letters, digits, -, _ and ., unlike {name:?}")
+                let name = Quoted(name.as_bytes());
+                write!(f, "a mount's name has letters, digits, -, _ and ., unlike {name}")
             }
             Problem::Twice(None) => f.write_str("it is described twice"),
             Problem::Twice(Some(first)) => write!(f, "it is described already, in {first}"),
             Problem::NoDirectory(path) => write!(f, "no directory {} is described", Path(path)),
             Problem::NotDirectory(path) => write!(f, "{} is no directory", Path(path)),
             Problem::Parents => f.write_str("it has a name, and needs no parent"),
+            Problem::Nameless => f.write_str("a second name is one in a directory"),
             Problem::NoObject(path) => write!(f, "nothing describes {}", Path(path)),
             Problem::SecondName(path) => write!(f, "{} is a second name", Path(path)),
-            Problem::NoMount(name) => write!(f, "no mount is named {name}"),
+            Problem::NoMount(name) => write!(f, "no mount is named {}", Quoted(name.as_bytes())),
             Problem::MountTwice(name) => write!(f, "two mounts are named {name}"),
             Problem::Broken { broken, record, clause, reason } => {
                 write!(f, "rule {} broken", broken.rule)?;

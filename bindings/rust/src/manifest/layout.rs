@@ -2,7 +2,7 @@
 
 use super::object::{is_name, Object};
 use super::{Item, Kind, Line, Manifest, ManifestError, Position, Problem};
-use std::collections::hash_map::{Entry as Slot, HashMap};
+use std::collections::HashMap;
 
 /// Nodes and mounts, in the order in which they are described. What speaks of one has its place in
 /// these lists.
@@ -53,13 +53,13 @@ impl At<'_> {
     }
 }
 
-impl Node<'_> {
+impl<'a> Node<'a> {
     pub fn is_directory(&self) -> bool {
         matches!(self.kind, Kind::Directory(_))
     }
 
     /// The order of what has no name: as their names in the manifest, shorter ones first.
-    pub fn rank(&self) -> (usize, &[u8]) {
+    pub fn rank(&self) -> (usize, &'a [u8]) {
         (self.at.path.len(), self.at.path)
     }
 }
@@ -74,7 +74,17 @@ impl Line {
         At { path: object.bytes(), position: self.position }
     }
 
-    /// All that it speaks of.
+    /// Whether all that it speaks of has a path.
+    fn check(&self) -> Result<(), ManifestError> {
+        match self.objects().into_iter().flatten().find(|object| !object.is_path()) {
+            None => Ok(()),
+            Some(object) => {
+                let at = At { path: object.bytes(), position: self.position };
+                Err(at.error(Problem::NoPath))
+            }
+        }
+    }
+
     fn objects(&self) -> [Option<&Object>; 2] {
         match &self.item {
             Item::Node { object, kind: Kind::Directory(parent) } => [Some(object), parent.as_ref()],
@@ -91,22 +101,13 @@ static DIRECTORY: Kind = Kind::Directory(None);
 impl<'a> Layout<'a> {
     pub fn of(manifest: &'a Manifest) -> Result<Self, ManifestError> {
         let lines = &manifest.lines;
-        for line in lines {
-            if let Some(object) = line.objects().into_iter().flatten().find(|o| !o.is_path()) {
-                let at = At { path: object.bytes(), position: line.position };
-                return Err(at.error(Problem::NoPath));
-            }
-        }
+        lines.iter().try_for_each(Line::check)?;
         let known = Known::of(lines)?;
-        let mut layout = Layout { nodes: known.nodes(lines), mounts: Vec::new() };
-        for line in lines {
-            layout.put(line, &known)?;
-        }
-        for node in &mut layout.nodes {
-            node.entries.sort_by_key(|entry| entry.name);
-        }
-        layout.sort_nameless();
-        layout.hang(lines, &known)?;
+        let mut layout = Layout { nodes: nodes(lines), mounts: Vec::new() };
+        lines.iter().try_for_each(|line| layout.put(line, &known))?;
+        layout.sort();
+        layout.mount_root(lines, &known)?;
+        lines.iter().try_for_each(|line| layout.hang(line, &known))?;
         Ok(layout)
     }
 
@@ -135,6 +136,9 @@ impl<'a> Layout<'a> {
                 self.nodes[node].parent = Some(parent);
                 self.nodes[parent].nameless.push(node);
             }
+            (None, None) if matches!(line.item, Item::Hard { .. }) => {
+                return Err(line.at().error(Problem::Nameless));
+            }
             (None, None) => {}
         }
         Ok(())
@@ -151,40 +155,65 @@ impl<'a> Layout<'a> {
         Err(line.at().error(problem))
     }
 
-    fn sort_nameless(&mut self) {
-        let mut lists: Vec<Vec<usize>> =
-            self.nodes.iter_mut().map(|node| std::mem::take(&mut node.nameless)).collect();
-        lists.iter_mut().for_each(|list| list.sort_by_key(|node| self.nodes[*node].rank()));
-        for (node, list) in self.nodes.iter_mut().zip(lists) {
-            node.nameless = list;
+    fn sort(&mut self) {
+        let ranks: Vec<(usize, &'a [u8])> = self.nodes.iter().map(Node::rank).collect();
+        for node in &mut self.nodes {
+            node.entries.sort_by_key(|entry| entry.name);
+            node.nameless.sort_by_key(|at| ranks[*at]);
         }
     }
 
-    /// Makes the mounts, and leads magic links to their targets.
-    fn hang(&mut self, lines: &'a [Line], known: &Known<'a>) -> Result<(), ManifestError> {
-        let root = lines.iter().find(|line| matches!(line.item, Item::Root { .. }));
-        let (at, shown) = match root {
+    /// Makes mount 0, which shows the main tree if no line says otherwise.
+    fn mount_root(&mut self, lines: &'a [Line], known: &Known) -> Result<(), ManifestError> {
+        let line = lines.iter().find(|line| matches!(line.item, Item::Root { .. }));
+        let (at, root) = match line {
             Some(line) => (line.at(), known.node(line, line.at().path)?),
             None => (At { path: b"", position: None }, 0),
         };
-        self.mounts.push(Mount { at, root: shown, parent: 0, point: shown });
-        for line in lines {
-            match &line.item {
-                Item::Mount { root, point, parent, .. } => self.mounts.push(Mount {
-                    at: line.at(),
-                    root: known.node(line, root.bytes())?,
-                    parent: known.mount(line, parent)?,
-                    point: known.node(line, point.bytes())?,
-                }),
-                Item::Node { object, kind: Kind::Magic { target, mount } } => {
-                    let target = (known.mount(line, mount)?, known.node(line, target.bytes())?);
-                    self.nodes[known.node(line, object.bytes())?].target = target;
-                }
-                _ => {}
+        self.mounts.push(Mount { at, root, parent: 0, point: root });
+        Ok(())
+    }
+
+    /// Makes a line's mount, or leads its magic link to the target.
+    fn hang(&mut self, line: &'a Line, known: &Known) -> Result<(), ManifestError> {
+        match &line.item {
+            Item::Mount { root, point, parent, .. } => self.mounts.push(Mount {
+                at: line.at(),
+                root: known.node(line, root.bytes())?,
+                parent: known.mount(line, parent)?,
+                point: known.node(line, point.bytes())?,
+            }),
+            Item::Node { object, kind: Kind::Magic { target, mount } } => {
+                let target = (known.mount(line, mount)?, known.node(line, target.bytes())?);
+                self.nodes[known.node(line, object.bytes())?].target = target;
             }
+            _ => {}
         }
         Ok(())
     }
+}
+
+/// The nodes that lines describe, with nothing in them yet.
+fn nodes(lines: &[Line]) -> Vec<Node<'_>> {
+    let node = |at, kind| Node {
+        at,
+        kind,
+        parent: None,
+        entries: Vec::new(),
+        nameless: Vec::new(),
+        target: (0, 0),
+    };
+    let mut nodes = vec![node(At { path: b"", position: None }, &DIRECTORY)];
+    for line in lines {
+        match &line.item {
+            Item::Node { kind, .. } if line.at().path.is_empty() => {
+                nodes[0] = node(line.at(), kind)
+            }
+            Item::Node { kind, .. } => nodes.push(node(line.at(), kind)),
+            _ => {}
+        }
+    }
+    nodes
 }
 
 /// What the lines describe, by path and by name.
@@ -203,33 +232,34 @@ impl<'a> Known<'a> {
     fn of(lines: &'a [Line]) -> Result<Self, ManifestError> {
         let mut known = Known { by_path: HashMap::new(), mounts: HashMap::new() };
         known.by_path.insert(b"", Said::Node(0));
-        // Of what is described, where it first was.
-        let mut first: HashMap<&[u8], Option<Position>> = HashMap::new();
-        let (mut nodes, mut mounts, mut root) = (1, 1, None);
+        // Of what is described, where it first was; and how many nodes and mounts there are.
+        let (mut first, mut root) = (HashMap::new(), None);
+        let (mut nodes, mut mounts) = (1, 1);
         for line in lines {
             let at = line.at();
-            let said = match &line.item {
-                Item::Node { .. } if at.path.is_empty() => Said::Node(0),
+            let twice = match &line.item {
+                Item::Node { .. } | Item::Hard { .. } => first.insert(at.path, line.position),
+                Item::Root { .. } => root.replace(line.position),
+                Item::Mount { .. } => None,
+            };
+            if let Some(first) = twice {
+                return Err(at.error(Problem::Twice(first)));
+            }
+            match &line.item {
+                Item::Node { .. } if at.path.is_empty() => {}
                 Item::Node { .. } => {
+                    known.by_path.insert(at.path, Said::Node(nodes));
                     nodes += 1;
-                    Said::Node(nodes - 1)
                 }
-                Item::Hard { other, .. } => Said::Hard(other),
-                Item::Root { .. } => match root.replace(line.position) {
-                    Some(first) => return Err(at.error(Problem::Twice(first))),
-                    None => continue,
-                },
+                Item::Hard { other, .. } => {
+                    known.by_path.insert(at.path, Said::Hard(other));
+                }
+                Item::Root { .. } => {}
                 Item::Mount { name, .. } => {
                     known.name_mount(at, name.as_deref(), mounts)?;
                     mounts += 1;
-                    continue;
                 }
-            };
-            match first.entry(at.path) {
-                Slot::Occupied(first) => return Err(at.error(Problem::Twice(*first.get()))),
-                Slot::Vacant(first) => first.insert(line.position),
-            };
-            known.by_path.insert(at.path, said);
+            }
         }
         Ok(known)
     }
@@ -249,29 +279,6 @@ impl<'a> Known<'a> {
             },
         };
         Err(at.error(problem))
-    }
-
-    /// The nodes, with nothing in them yet.
-    fn nodes(&self, lines: &'a [Line]) -> Vec<Node<'a>> {
-        let node = |at, kind| Node {
-            at,
-            kind,
-            parent: None,
-            entries: Vec::new(),
-            nameless: Vec::new(),
-            target: (0, 0),
-        };
-        let mut nodes = vec![node(At { path: b"", position: None }, &DIRECTORY)];
-        for line in lines {
-            match &line.item {
-                Item::Node { kind, .. } if line.at().path.is_empty() => {
-                    nodes[0] = node(line.at(), kind);
-                }
-                Item::Node { kind, .. } => nodes.push(node(line.at(), kind)),
-                _ => {}
-            }
-        }
-        nodes
     }
 
     /// The node of a path, which may be a second name of it.

@@ -1,10 +1,10 @@
 //! The records of a manifest, built.
 
-use super::layout::{At, Layout};
+use super::layout::{At, Layout, Mount, Node};
 use super::numbers::Numbers;
 use super::object::Path;
 use super::{Kind, ManifestError, Problem};
-use crate::records::{BYTES, ENTRIES, MOUNTS, NODES};
+use crate::records::{BYTES, ENTRIES, ENTRY, MOUNTS, NODE, NODES};
 use crate::{Broken, BuildError, Parts, Record};
 
 pub(super) fn build(layout: &Layout) -> Result<Vec<u8>, ManifestError> {
@@ -33,38 +33,40 @@ struct Records {
 
 impl Records {
     fn of(layout: &Layout, numbers: &Numbers) -> Self {
-        let (mut records, mut first) = (Records::default(), 0);
-        for (number, &at) in numbers.nodes.iter().enumerate() {
-            let node = &layout.nodes[at];
-            let parent = node.parent.map_or(number, |parent| numbers.node(parent));
-            let (kind, parent, first, count) = match node.kind {
-                Kind::Directory(_) => {
-                    let count = node.entries.len();
-                    first += count;
-                    (1, parent, first - count, count)
-                }
-                Kind::File => (2, 0, 0, 0),
-                Kind::Link(body) => (3, 0, records.text(body), body.len()),
-                Kind::Magic { .. } => {
-                    let (mount, node) = node.target;
-                    (4, 0, numbers.mount(mount), numbers.node(node))
-                }
-            };
-            records.nodes.extend([short(kind), short(parent)].concat());
-            records.nodes.extend([long(first), long(count)].concat());
-            for entry in &node.entries {
-                let offset = long(records.text(entry.name));
-                let fields = [short(entry.name.len()), short(numbers.node(entry.node))];
-                records.entries.extend(offset.into_iter().chain(fields.concat()));
-            }
-        }
-        for &at in &numbers.mounts {
-            let mount = &layout.mounts[at];
-            let fields = [numbers.node(mount.root), numbers.mount(mount.parent)];
-            let fields = [fields[0], fields[1], numbers.node(mount.point), 0];
-            records.mounts.extend(fields.map(short).concat());
-        }
+        let mut records = Records::default();
+        numbers.nodes.iter().for_each(|at| records.node(&layout.nodes[*at], numbers));
+        numbers.mounts.iter().for_each(|at| records.mount(&layout.mounts[*at], numbers));
         records
+    }
+
+    fn node(&mut self, node: &Node, numbers: &Numbers) {
+        // The records before it are those of the nodes and directories numbered below.
+        let (own, first) = (self.nodes.len() / NODE, self.entries.len() / ENTRY);
+        let (kind, parent, first, count) = match node.kind {
+            Kind::Directory(_) => {
+                let parent = node.parent.map_or(own, |parent| numbers.node(parent));
+                (1, parent, first, node.entries.len())
+            }
+            Kind::File => (2, 0, 0, 0),
+            Kind::Link(body) => (3, 0, self.text(body), body.len()),
+            Kind::Magic { .. } => {
+                let (mount, node) = node.target;
+                (4, 0, numbers.mount(mount), numbers.node(node))
+            }
+        };
+        self.nodes.extend([short(kind), short(parent)].concat());
+        self.nodes.extend([long(first), long(count)].concat());
+        for entry in &node.entries {
+            let offset = long(self.text(entry.name));
+            let fields = [entry.name.len(), numbers.node(entry.node)].map(short);
+            self.entries.extend(offset.into_iter().chain(fields.concat()));
+        }
+    }
+
+    fn mount(&mut self, mount: &Mount, numbers: &Numbers) {
+        let [root, point] = [mount.root, mount.point].map(|at| numbers.node(at));
+        let fields = [root, numbers.mount(mount.parent), point, 0];
+        self.mounts.extend(fields.map(short).concat());
     }
 
     /// Where bytes stand in the text.

@@ -1,0 +1,76 @@
+//! Where an image is written to, and what is told of it.
+
+use crate::json::Object;
+use crate::output::{Failure, Output};
+use crate::{escape, file};
+use std::ffi::OsString;
+use std::io::{self, IsTerminal};
+use ventolaire::Table;
+
+pub enum Destination {
+    /// Standard output.
+    Output,
+    File {
+        file: OsString,
+        /// Whether one that is there may be replaced.
+        force: bool,
+    },
+}
+
+impl Destination {
+    /// Whether an image can go there at all, asked before one is made.
+    pub fn check(&self) -> Result<(), String> {
+        match self {
+            Destination::Output if io::stdout().is_terminal() => {
+                Err("an image is not printed to a terminal; give --output FILE, or a pipe".into())
+            }
+            _ => Ok(()),
+        }
+    }
+
+    pub fn write(&self, image: &[u8], output: &mut Output) -> Result<(), Failure> {
+        let (file, written) = match self {
+            Destination::Output => return output.write(image),
+            Destination::File { file, force: true } => (file, file::replace(file, image)),
+            Destination::File { file, force: false } => (file, file::create(file, image)),
+        };
+        written.map_err(|error| {
+            let hint = match error.kind() {
+                io::ErrorKind::AlreadyExists => "; --force replaces a file",
+                _ => "",
+            };
+            format!("cannot write {}: {error}{hint}", escape::name(file)).into()
+        })
+    }
+
+    /// Tells what was written to a file: what is in the table, and how long it is. In JSON with
+    /// more members.
+    pub fn tell(
+        &self,
+        image: &[u8],
+        json: Option<Object>,
+        output: &mut Output,
+    ) -> Result<(), Failure> {
+        let (Destination::File { file, .. }, Ok(table)) = (self, Table::new(image)) else {
+            return Ok(());
+        };
+        let counts = [table.nodes().len(), table.entries().len(), table.mounts().len()];
+        let ([nodes, entries, mounts], bytes) = (counts, image.len());
+        match json {
+            Some(more) => {
+                let object = Object::new().bytes("file", file.as_encoded_bytes());
+                let object = object.with("nodes", nodes).with("entries", entries);
+                output.line(object.with("mounts", mounts).with("bytes", bytes).and(more))
+            }
+            None => {
+                let counted = [(nodes, "node", "nodes"), (entries, "entry", "entries")].map(
+                    |(count, one, many)| format!("{count} {}", if count == 1 { one } else { many }),
+                );
+                let mounts = format!("{mounts} mount{}", if mounts == 1 { "" } else { "s" });
+                let [nodes, entries] = counted;
+                let file = escape::name(file);
+                output.line(format_args!("{file}: {nodes}, {entries}, {mounts}; {bytes} bytes"))
+            }
+        }
+    }
+}

@@ -1,0 +1,52 @@
+//! Images of real directories.
+
+mod left;
+mod mounts;
+mod progress;
+mod tree;
+mod walk;
+
+use crate::arguments::Pack;
+use crate::escape;
+use crate::json::Object;
+use crate::output::{self, Failure, Output};
+use progress::Progress;
+use walk::{Packed, Walk};
+
+pub fn run(asked: &Pack, output: &mut Output) -> Result<(), Failure> {
+    asked.to.check()?;
+    let packed = Walk::new(&asked.directory, asked.mounts, Progress::of_terminal()).run()?;
+    let image = packed.tree.manifest().build();
+    let image = image
+        .map_err(|error| format!("cannot pack {}: {error}", escape::name(&asked.directory)))?;
+    asked.to.write(&image, output)?;
+    output.refused = !packed.left.is_empty();
+    asked.to.tell(&image, asked.json.then(|| members(&packed)), output)?;
+    output.flush()?;
+    if !asked.json {
+        tell(&packed);
+    }
+    Ok(())
+}
+
+/// What is not in the image as it is in the directory, in JSON.
+fn members(packed: &Packed) -> Object {
+    let object = Object::new().with("mounts_as_directories", packed.as_directories);
+    object.with("mounts_as_files", packed.as_files).and(packed.left.json())
+}
+
+/// The same in lines on standard error.
+fn tell(packed: &Packed) {
+    match packed.as_directories {
+        0 => {}
+        1 => output::tell("1 mount became a directory; --mounts keeps it"),
+        many => output::tell(format_args!("{many} mounts became directories; --mounts keeps them")),
+    }
+    let why = "a table has mounts on directories alone";
+    match packed.as_files {
+        0 => {}
+        1 => output::tell(format_args!("1 mount on a file became a file; {why}")),
+        many => output::tell(format_args!("{many} mounts on files became files; {why}")),
+    }
+    packed.left.lines().for_each(output::tell);
+}

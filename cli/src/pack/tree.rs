@@ -1,0 +1,228 @@
+//! What was read, put together: a node for each object, whatever names and mounts show it.
+
+use std::collections::{BTreeMap, HashMap};
+use std::fs::Metadata;
+use std::os::unix::fs::MetadataExt;
+use ventolaire::{Manifest, ManifestError, Parts, Problem};
+
+/// By what an object is known again: its device and its inode.
+#[derive(Clone, Copy, PartialEq, Eq, Hash)]
+pub struct Identity(u64, u64);
+
+impl From<&Metadata> for Identity {
+    fn from(data: &Metadata) -> Self {
+        Identity(data.dev(), data.ino())
+    }
+}
+
+pub enum Kind {
+    /// With the nodes that it names.
+    Directory(BTreeMap<Vec<u8>, usize>),
+    File,
+    Link(Vec<u8>),
+}
+
+struct Node {
+    kind: Kind,
+    /// Of a directory, but for the top of a tree.
+    parent: Option<usize>,
+}
+
+struct Mount {
+    parent: usize,
+    point: usize,
+    /// None as long as it was not looked into.
+    root: Option<usize>,
+}
+
+pub struct Tree {
+    /// First the directory that mount 0 shows.
+    nodes: Vec<Node>,
+    mounts: Vec<Mount>,
+    known: HashMap<Identity, usize>,
+    /// How many bytes all names and bodies have.
+    text: usize,
+    /// With how many the builder is asked next.
+    asked_at: usize,
+}
+
+impl Tree {
+    pub fn new() -> Self {
+        let mut tree = Tree {
+            nodes: Vec::new(),
+            mounts: Vec::new(),
+            known: HashMap::new(),
+            text: 0,
+            asked_at: Parts::IMAGE_MAX / 16,
+        };
+        let root = tree.add(Kind::Directory(BTreeMap::new()), None);
+        tree.mounts.push(Mount { parent: 0, point: root, root: Some(root) });
+        tree
+    }
+
+    fn add(&mut self, kind: Kind, parent: Option<usize>) -> usize {
+        self.nodes.push(Node { kind, parent });
+        self.nodes.len() - 1
+    }
+
+    fn entry(&self, directory: usize, name: &[u8]) -> Option<usize> {
+        match &self.nodes[directory].kind {
+            Kind::Directory(entries) => entries.get(name).copied(),
+            _ => None,
+        }
+    }
+
+    fn name(&mut self, directory: usize, name: &[u8], node: usize) {
+        if let Kind::Directory(entries) = &mut self.nodes[directory].kind {
+            if entries.insert(name.into(), node).is_none() {
+                self.text += name.len();
+            }
+        }
+    }
+
+    /// The directory of a name. One that has an identity is the same wherever it is met: it may
+    /// be the top of a tree till now, or a point whose mount has hidden what it is.
+    pub fn directory(&mut self, parent: usize, name: &[u8], identity: Option<Identity>) -> usize {
+        let is_directory = |at: &usize| matches!(self.nodes[*at].kind, Kind::Directory(_));
+        let known = identity.and_then(|identity| self.known.get(&identity).copied());
+        // Meanwhile a file may have made way for it.
+        let (known, there) =
+            (known.filter(is_directory), self.entry(parent, name).filter(is_directory));
+        let node = match known.or(there) {
+            Some(node) => node,
+            None => self.add(Kind::Directory(BTreeMap::new()), None),
+        };
+        let points = self.mounts.iter_mut().filter(|mount| there == Some(mount.point));
+        points.for_each(|mount| mount.point = node);
+        self.nodes[node].parent = Some(parent);
+        self.name(parent, name, node);
+        self.know(identity, node);
+        node
+    }
+
+    /// A file or link by one more name. A name that was met in another mount stays what it was
+    /// there.
+    pub fn leaf(&mut self, directory: usize, name: &[u8], identity: Identity, kind: Kind) {
+        if self.entry(directory, name).is_some() {
+            return;
+        }
+        let node = match self.known.get(&identity) {
+            Some(node) => *node,
+            None => {
+                self.text += if let Kind::Link(body) = &kind { body.len() } else { 0 };
+                self.add(kind, None)
+            }
+        };
+        self.know(Some(identity), node);
+        self.name(directory, name, node);
+    }
+
+    /// A mount on a name. What it hides is a directory in which nothing is seen.
+    pub fn mount(&mut self, parent: usize, directory: usize, name: &[u8]) {
+        let point = match self.entry(directory, name) {
+            Some(point) => point,
+            None => self.directory(directory, name, None),
+        };
+        self.mounts.push(Mount { parent, point, root: None });
+    }
+
+    /// The directory that a mount shows: one that is known, or the top of a tree of its own.
+    pub fn show(&mut self, mount: usize, identity: Identity) -> usize {
+        let root = match (mount, self.known.get(&identity)) {
+            (0, _) => 0,
+            (_, Some(root)) => *root,
+            (_, None) => self.add(Kind::Directory(BTreeMap::new()), None),
+        };
+        self.know(Some(identity), root);
+        self.mounts[mount].root = Some(root);
+        root
+    }
+
+    fn know(&mut self, identity: Option<Identity>, node: usize) {
+        identity.map(|identity| self.known.insert(identity, node));
+    }
+
+    /// Whether more was read than an image can hold. The builder is asked seldom: each time that
+    /// names and bodies have twice as many bytes, at last with as many as a whole image.
+    pub fn is_full(&mut self) -> Option<ManifestError> {
+        if self.text < self.asked_at {
+            return None;
+        }
+        self.asked_at *= 2;
+        // What else is wrong may be set right by what is still to be read.
+        let is_limit = |error: &ManifestError| match &error.problem {
+            Problem::Broken { broken, .. } => broken.rule == 1 || broken.rule == 3,
+            _ => false,
+        };
+        self.manifest().build().err().filter(is_limit)
+    }
+
+    pub fn manifest(&self) -> Manifest {
+        let mut manifest = Manifest::new();
+        let paths = self.describe(&mut manifest);
+        if self.nodes[0].parent.is_some() {
+            manifest.root(&paths[0]);
+        }
+        for (number, mount) in self.mounts.iter().enumerate().skip(1) {
+            let Some(root) = mount.root else { continue };
+            let (name, root, point) = (mount_name(number), &paths[root], &paths[mount.point]);
+            match mount.parent {
+                0 => manifest.mount_as(name, root, point),
+                parent => manifest.mount_as(name, root, (point, mount_name(parent))),
+            };
+        }
+        manifest
+    }
+
+    /// Adds all nodes to a manifest, each tree from its top: their first paths.
+    fn describe(&self, manifest: &mut Manifest) -> Vec<Vec<u8>> {
+        let mut paths = vec![Vec::new(); self.nodes.len()];
+        let mut waiting = self.tops();
+        while let Some((node, path)) = waiting.pop() {
+            match &self.nodes[node].kind {
+                Kind::Directory(entries) => {
+                    manifest.directory(&path);
+                    // Of slashes in a row one counts: the main top's path is one.
+                    let below = |name: &[u8]| [&path, &b"/"[..], name].concat();
+                    let below = entries.iter().map(|(name, node)| (*node, below(name)));
+                    waiting.extend(below.rev());
+                }
+                _ if !paths[node].is_empty() => {
+                    manifest.hard_link(path, &paths[node]);
+                    continue;
+                }
+                Kind::File => {
+                    manifest.file(&path);
+                }
+                Kind::Link(body) => {
+                    manifest.link(&path, body);
+                }
+            }
+            paths[node] = path;
+        }
+        paths
+    }
+
+    /// The tops of all trees with their paths, the main tree's last.
+    fn tops(&self) -> Vec<(usize, Vec<u8>)> {
+        let mut main = 0;
+        while let Some(parent) = self.nodes[main].parent {
+            main = parent;
+        }
+        let is_other = |at: &usize| {
+            let node = &self.nodes[*at];
+            matches!(node.kind, Kind::Directory(_)) && node.parent.is_none() && *at != main
+        };
+        let others = (0..self.nodes.len()).filter(is_other);
+        let others = others.enumerate().map(|(at, top)| (top, format!("tree{}:", at + 1)));
+        let mut tops: Vec<(usize, Vec<u8>)> =
+            others.map(|(top, path)| (top, path.into_bytes())).collect();
+        tops.reverse();
+        tops.push((main, b"/".to_vec()));
+        tops
+    }
+}
+
+fn mount_name(number: usize) -> String {
+    format!("mount{number}")
+}
