@@ -52,12 +52,14 @@ use object::Object;
 /// directory: the top of a second tree, a directory that only a mount or a magic link shows, a
 /// file that only a magic link does.
 ///
-/// One tree gives one image, whatever the order in which it was described. The main tree's nodes
-/// come first, then those of the trees that mounts show, in the order of these mounts, then other
-/// trees; in a tree a directory comes before what it names, and the names in their order, so that
-/// the numbers run down a drawn tree. Trees that no mount shows, and what else has no name, come
-/// in the order of the names that the manifest gives them, the shorter first. Mounts come after
-/// the one that they hang in, in the order of their points.
+/// One tree gives one image, whatever the order in which it was described. The nodes of the tree
+/// that mount 0 shows come first, then those of the trees that other mounts show, in the order of
+/// these mounts, then other trees, then files and links that no directory names. In a tree a
+/// directory comes before what it names, and the names in their order, so that the numbers run
+/// down a drawn tree; directories without a name come behind all that their parent names. Trees
+/// that no mount shows, and what has no name, come in the order of the names that the manifest
+/// gives them, the shorter first. Mounts come after the one that they hang in, in the order of
+/// their points.
 ///
 /// The image is the proved builder's. What that refuses, and what no records can be made of, is
 /// told with the path that it comes from: [`ManifestError`].

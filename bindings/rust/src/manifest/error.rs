@@ -1,4 +1,3 @@
-use super::object::Path;
 use crate::text::Quoted;
 use crate::{Broken, Errno, Record};
 use std::error::Error;
@@ -73,13 +72,15 @@ pub enum Problem {
     NoName(String),
     /// It is described already, perhaps in this line.
     Twice(Option<Position>),
+    /// What mount 0 shows is said already, perhaps in this line.
+    RootTwice(Option<Position>),
     /// It would be an entry of this directory, which nothing describes.
     NoDirectory(Vec<u8>),
     /// It would be an entry of this, which is no directory.
     NotDirectory(Vec<u8>),
     /// A parent is given to what has a name, and so has one.
     Parents,
-    /// It is to be a second name, and is none in any directory.
+    /// It would be a second name, and is a tree's name alone or `/`: none in a directory.
     Nameless,
     /// It speaks of this object, which nothing describes.
     NoObject(Vec<u8>),
@@ -114,8 +115,8 @@ impl fmt::Display for ManifestError {
             // Of no object yet.
             (Problem::Unexpected { .. }, _) => {}
             // A tree's name has its colon.
-            (_, path @ [.., b':']) if !path.contains(&b'/') => write!(f, "{} ", Path(path))?,
-            (_, path) => write!(f, "{}: ", Path(path))?,
+            (_, path @ [.., b':']) if !path.contains(&b'/') => write!(f, "{} ", Quoted(path))?,
+            (_, path) => write!(f, "{}: ", Quoted(path))?,
         }
         write!(f, "{}", self.problem)
     }
@@ -132,12 +133,14 @@ impl fmt::Display for Problem {
             }
             Problem::Twice(None) => f.write_str("it is described twice"),
             Problem::Twice(Some(first)) => write!(f, "it is described already, in {first}"),
-            Problem::NoDirectory(path) => write!(f, "no directory {} is described", Path(path)),
-            Problem::NotDirectory(path) => write!(f, "{} is no directory", Path(path)),
+            Problem::RootTwice(None) => f.write_str("the root is given twice"),
+            Problem::RootTwice(Some(first)) => write!(f, "the root is given already, in {first}"),
+            Problem::NoDirectory(path) => write!(f, "no directory {} is described", Quoted(path)),
+            Problem::NotDirectory(path) => write!(f, "{} is no directory", Quoted(path)),
             Problem::Parents => f.write_str("it has a name, and needs no parent"),
-            Problem::Nameless => f.write_str("a second name is one in a directory"),
-            Problem::NoObject(path) => write!(f, "nothing describes {}", Path(path)),
-            Problem::SecondName(path) => write!(f, "{} is a second name", Path(path)),
+            Problem::Nameless => f.write_str("it has no name, and cannot be a second one"),
+            Problem::NoObject(path) => write!(f, "nothing describes {}", Quoted(path)),
+            Problem::SecondName(path) => write!(f, "{} is a second name", Quoted(path)),
             Problem::NoMount(name) => write!(f, "no mount is named {}", Quoted(name.as_bytes())),
             Problem::MountTwice(name) => write!(f, "two mounts are named {name}"),
             Problem::Broken { broken, record, clause, reason } => {

@@ -1,6 +1,6 @@
 //! What a manifest describes, put together: who names what, and what hangs where.
 
-use super::object::{is_name, Object};
+use super::object::{is_name, told, Object};
 use super::{Item, Kind, Line, Manifest, ManifestError, Position, Problem};
 use std::collections::HashMap;
 
@@ -49,7 +49,7 @@ pub(super) struct At<'a> {
 
 impl At<'_> {
     pub fn error(self, problem: Problem) -> ManifestError {
-        ManifestError { position: self.position, path: self.path.to_vec(), problem }
+        ManifestError { position: self.position, path: told(self.path), problem }
     }
 }
 
@@ -79,8 +79,9 @@ impl Line {
         match self.objects().into_iter().flatten().find(|object| !object.is_path()) {
             None => Ok(()),
             Some(object) => {
-                let at = At { path: object.bytes(), position: self.position };
-                Err(at.error(Problem::NoPath))
+                // As it was given, also if that is nothing.
+                let (position, path) = (self.position, object.bytes().to_vec());
+                Err(ManifestError { position, path, problem: Problem::NoPath })
             }
         }
     }
@@ -115,7 +116,7 @@ impl<'a> Layout<'a> {
     fn put(&mut self, line: &'a Line, known: &Known<'a>) -> Result<(), ManifestError> {
         let (object, node) = match &line.item {
             Item::Node { object, .. } => (object, known.node(line, object.bytes())?),
-            Item::Hard { object, other } => (object, known.node(line, other.bytes())?),
+            Item::Hard { object, other } => (object, known.first(line, other.bytes())?),
             _ => return Ok(()),
         };
         let parent = match &line.item {
@@ -133,11 +134,11 @@ impl<'a> Layout<'a> {
             }
             (None, Some(parent)) => {
                 let parent = self.directory(line, parent.bytes(), known)?;
-                self.nodes[node].parent = Some(parent);
-                self.nodes[parent].nameless.push(node);
-            }
-            (None, None) if matches!(line.item, Item::Hard { .. }) => {
-                return Err(line.at().error(Problem::Nameless));
+                // Its own parent is the top of a tree.
+                if parent != node {
+                    self.nodes[node].parent = Some(parent);
+                    self.nodes[parent].nameless.push(node);
+                }
             }
             (None, None) => {}
         }
@@ -148,9 +149,9 @@ impl<'a> Layout<'a> {
     fn directory(&self, line: &Line, path: &[u8], known: &Known) -> Result<usize, ManifestError> {
         let problem = match known.by_path.get(path) {
             Some(Said::Node(node)) if self.nodes[*node].is_directory() => return Ok(*node),
-            Some(Said::Node(_)) => Problem::NotDirectory(path.to_vec()),
-            Some(Said::Hard(_)) => Problem::SecondName(path.to_vec()),
-            None => Problem::NoDirectory(path.to_vec()),
+            Some(Said::Node(_)) => Problem::NotDirectory(told(path)),
+            Some(Said::Hard(_)) => Problem::SecondName(told(path)),
+            None => Problem::NoDirectory(told(path)),
         };
         Err(line.at().error(problem))
     }
@@ -168,7 +169,7 @@ impl<'a> Layout<'a> {
         let line = lines.iter().find(|line| matches!(line.item, Item::Root { .. }));
         let (at, root) = match line {
             Some(line) => (line.at(), known.node(line, line.at().path)?),
-            None => (At { path: b"", position: None }, 0),
+            None => (self.nodes[0].at, 0),
         };
         self.mounts.push(Mount { at, root, parent: 0, point: root });
         Ok(())
@@ -232,33 +233,35 @@ impl<'a> Known<'a> {
     fn of(lines: &'a [Line]) -> Result<Self, ManifestError> {
         let mut known = Known { by_path: HashMap::new(), mounts: HashMap::new() };
         known.by_path.insert(b"", Said::Node(0));
-        // Of what is described, where it first was; and how many nodes and mounts there are.
-        let (mut first, mut root) = (HashMap::new(), None);
+        // Where each object was described, and the root.
+        let (mut described, mut root) = (HashMap::new(), None);
         let (mut nodes, mut mounts) = (1, 1);
         for line in lines {
             let at = line.at();
-            let twice = match &line.item {
-                Item::Node { .. } | Item::Hard { .. } => first.insert(at.path, line.position),
-                Item::Root { .. } => root.replace(line.position),
-                Item::Mount { .. } => None,
-            };
-            if let Some(first) = twice {
-                return Err(at.error(Problem::Twice(first)));
-            }
             match &line.item {
                 Item::Node { .. } if at.path.is_empty() => {}
                 Item::Node { .. } => {
                     known.by_path.insert(at.path, Said::Node(nodes));
                     nodes += 1;
                 }
+                Item::Hard { object, .. } if object.named().is_none() => {
+                    return Err(at.error(Problem::Nameless));
+                }
                 Item::Hard { other, .. } => {
                     known.by_path.insert(at.path, Said::Hard(other));
                 }
-                Item::Root { .. } => {}
+                Item::Root { .. } => match root.replace(line.position) {
+                    Some(first) => return Err(at.error(Problem::RootTwice(first))),
+                    None => continue,
+                },
                 Item::Mount { name, .. } => {
                     known.name_mount(at, name.as_deref(), mounts)?;
                     mounts += 1;
+                    continue;
                 }
+            }
+            if let Some(first) = described.insert(at.path, line.position) {
+                return Err(at.error(Problem::Twice(first)));
             }
         }
         Ok(known)
@@ -283,14 +286,18 @@ impl<'a> Known<'a> {
 
     /// The node of a path, which may be a second name of it.
     fn node(&self, line: &Line, path: &[u8]) -> Result<usize, ManifestError> {
-        let (path, said) = match self.by_path.get(path) {
-            Some(Said::Hard(other)) => (other.bytes(), self.by_path.get(other.bytes())),
-            said => (path, said),
-        };
-        let problem = match said {
+        match self.by_path.get(path) {
+            Some(Said::Hard(other)) => self.first(line, other.bytes()),
+            _ => self.first(line, path),
+        }
+    }
+
+    /// The node of a path that is no second name.
+    fn first(&self, line: &Line, path: &[u8]) -> Result<usize, ManifestError> {
+        let problem = match self.by_path.get(path) {
             Some(Said::Node(node)) => return Ok(*node),
-            Some(Said::Hard(_)) => Problem::SecondName(path.to_vec()),
-            None => Problem::NoObject(path.to_vec()),
+            Some(Said::Hard(_)) => Problem::SecondName(told(path)),
+            None => Problem::NoObject(told(path)),
         };
         Err(line.at().error(problem))
     }

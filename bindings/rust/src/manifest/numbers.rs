@@ -8,6 +8,7 @@ pub(super) struct Numbers {
     pub mounts: Vec<usize>,
     node_numbers: Vec<Option<usize>>,
     mount_numbers: Vec<Option<usize>>,
+    tops: Vec<Option<usize>>,
 }
 
 impl Numbers {
@@ -17,8 +18,8 @@ impl Numbers {
             mounts: Vec::new(),
             node_numbers: vec![None; layout.nodes.len()],
             mount_numbers: vec![None; layout.mounts.len()],
+            tops: tops(layout),
         };
-        numbers.tree(layout, 0);
         numbers.shown(layout);
         // Of what is left: tops, then directories whose parents lead in a ring, then the rest.
         let mut rest: Vec<usize> = (0..layout.nodes.len()).collect();
@@ -84,19 +85,27 @@ impl Numbers {
     fn show(&mut self, layout: &Layout, mount: usize) {
         self.mount_numbers[mount] = Some(self.mounts.len());
         self.mounts.push(mount);
-        if let Some(top) = top(layout, layout.mounts[mount].root) {
+        if let Some(top) = self.tops[layout.mounts[mount].root] {
             self.tree(layout, top);
         }
     }
 }
 
-/// The top of the tree that a directory is in. There is none in a ring of parents.
-fn top(layout: &Layout, mut at: usize) -> Option<usize> {
-    for _ in 0..layout.nodes.len() {
-        match layout.nodes[at].parent {
-            Some(parent) => at = parent,
-            None => return layout.nodes[at].is_directory().then_some(at),
+/// Of each directory the top of the tree that it is in. There is none above a ring of parents.
+fn tops(layout: &Layout) -> Vec<Option<usize>> {
+    let nodes = &layout.nodes;
+    let mut tops = vec![None; nodes.len()];
+    let is_top = |at: &usize| nodes[*at].is_directory() && nodes[*at].parent.is_none();
+    let mut waiting: Vec<(usize, usize)> =
+        (0..nodes.len()).filter(is_top).map(|at| (at, at)).collect();
+    while let Some((at, top)) = waiting.pop() {
+        if tops[at].replace(top).is_some() {
+            continue;
         }
+        let named = nodes[at].entries.iter().map(|entry| entry.node);
+        let all = named.chain(nodes[at].nameless.iter().copied());
+        let below = all.filter(|to| nodes[*to].parent == Some(at));
+        waiting.extend(below.map(|to| (to, top)));
     }
-    None
+    tops
 }

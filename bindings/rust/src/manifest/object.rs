@@ -67,6 +67,14 @@ impl fmt::Display for Path<'_> {
     }
 }
 
+/// A path as it is told: that of the main tree's top is a slash.
+pub(super) fn told(path: &[u8]) -> Vec<u8> {
+    match path {
+        [] => b"/".to_vec(),
+        path => path.to_vec(),
+    }
+}
+
 /// The tree's name with its colon, and the names behind it.
 fn split(path: &[u8]) -> Option<(&[u8], &[u8])> {
     let slash = path.iter().position(|byte| *byte == b'/').unwrap_or(path.len());

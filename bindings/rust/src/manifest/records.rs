@@ -98,7 +98,10 @@ struct Refused<'a> {
 impl Refused<'_> {
     fn error(&self) -> ManifestError {
         let cause = self.parts.cause(self.broken);
-        let reason = cause.named(|record| self.name(record));
+        let reason = match self.broken.rule {
+            1 => format!("the image would have {} bytes, over 65,536", self.bytes()),
+            _ => cause.named(|record| self.name(record)),
+        };
         let (broken, record, clause) = (self.broken, cause.record, cause.clause);
         let at = match record {
             Some(record) => self.at(record),
@@ -145,21 +148,31 @@ impl Refused<'_> {
         }
     }
 
-    /// The node with which the image has more bytes than it may, each counted with its names.
+    /// The node with which the image has more bytes than it may.
     fn past_bytes(&self) -> Option<At<'_>> {
+        let mut bytes = 20 + 8 * self.layout.mounts.len() as u64;
+        let past = self.numbers.nodes.iter().zip(self.sizes()).find(|(_, size)| {
+            bytes += size;
+            bytes > BYTES
+        });
+        past.map(|(at, _)| self.layout.nodes[*at].at)
+    }
+
+    /// How long the image would be. Fields may have no room for the lengths that make it so.
+    fn bytes(&self) -> u64 {
+        20 + 8 * self.layout.mounts.len() as u64 + self.sizes().iter().sum::<u64>()
+    }
+
+    /// The bytes of each node, in their order, with its body and its names.
+    fn sizes(&self) -> Vec<u64> {
         let mut named = vec![0; self.layout.nodes.len()];
         for entry in self.layout.nodes.iter().flat_map(|node| &node.entries) {
             named[entry.node] += 8 + entry.name.len() as u64;
         }
-        let mut bytes = 20 + 8 * self.layout.mounts.len() as u64;
-        let past = self.numbers.nodes.iter().find(|at| {
-            let body = match self.layout.nodes[**at].kind {
-                Kind::Link(body) => body.len() as u64,
-                _ => 0,
-            };
-            bytes += 12 + body + named[**at];
-            bytes > BYTES
-        });
-        past.map(|at| self.layout.nodes[*at].at)
+        let size = |at: &usize| match self.layout.nodes[*at].kind {
+            Kind::Link(body) => 12 + body.len() as u64 + named[*at],
+            _ => 12 + named[*at],
+        };
+        self.numbers.nodes.iter().map(size).collect()
     }
 }

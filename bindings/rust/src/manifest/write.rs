@@ -30,15 +30,15 @@ impl fmt::Display for Item {
                 Kind::Link(body) => write!(f, "link  {object} {}", Quoted(body)),
                 Kind::Magic { target, mount } => {
                     write!(f, "magic {object} {target}")?;
-                    behind(f, "in", mount)
+                    behind(f, "in", &quoted(mount))
                 }
             },
             Item::Hard { object, other } => write!(f, "hard  {object} {other}"),
             Item::Root { object } => write!(f, "root  {object}"),
             Item::Mount { root, point, parent, name } => {
                 write!(f, "mount {root} {point}")?;
-                behind(f, "in", parent)?;
-                behind(f, "as", name)
+                behind(f, "in", &quoted(parent))?;
+                behind(f, "as", &quoted(name))
             }
         }
     }
@@ -47,4 +47,9 @@ impl fmt::Display for Item {
 /// A word with what stands behind it, if anything does.
 fn behind(f: &mut fmt::Formatter, word: &str, what: &Option<impl fmt::Display>) -> fmt::Result {
     what.as_ref().map_or(Ok(()), |what| write!(f, " {word} {what}"))
+}
+
+/// The name of a mount, which may be none that can be read.
+fn quoted(name: &Option<String>) -> Option<Quoted<'_>> {
+    name.as_ref().map(|name| Quoted(name.as_bytes()))
 }

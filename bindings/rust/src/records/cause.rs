@@ -47,14 +47,15 @@ impl Cause {
         Cause { clause, record, words, numbers }
     }
 
-    /// The words, with a name in place of "node 3" or "mount 1" wherever one is known.
+    /// The words, with a name in place of "node 3", "directory 3" or "mount 1" wherever one is
+    /// known.
     #[cfg(feature = "std")]
     pub(crate) fn named(&self, name: impl Fn(Record) -> Option<String>) -> String {
         let mut words = self.words.split("{}");
         let mut text = String::from(words.next().unwrap_or_default());
         for (words, number) in words.zip(self.numbers) {
             let record = match text.rsplit(' ').nth(1) {
-                Some("node") => name(Record::Node(number)),
+                Some("node" | "directory") => name(Record::Node(number)),
                 Some("mount") => name(Record::Mount(number)),
                 _ => None,
             };
