@@ -121,28 +121,28 @@ impl Seen {
         Ok(seen)
     }
 
-    /// What is in mount 0 of an image.
+    /// What is in the main tree of an image.
     fn by_show(image: &[u8]) -> Seen {
         let (status, text) = common::answer_to(image, ["show", "-", "--json"]);
         assert_eq!(status, 0);
         let json = Json::read(&text);
         let nodes = json.list("nodes");
         let mut seen = Seen::default();
-        let mut waiting = vec![(Vec::new(), &nodes[0])];
-        while let Some((path, directory)) = waiting.pop() {
-            for entry in directory.list("entries") {
-                let name = entry.bytes("name");
-                let path = if path.is_empty() { name } else { [&path, &b"/"[..], &name].concat() };
-                let node = &nodes[entry.number("node")];
-                let (kind, body) = match node.text("kind") {
-                    "directory" => ('d', Vec::new()),
-                    "link" => ('l', node.bytes("body")),
-                    kind => (kind.chars().next().unwrap(), Vec::new()),
-                };
-                seen.add(&path, kind, &body, entry.number("node").to_string().into());
-                if kind == 'd' {
-                    waiting.push((path, node));
-                }
+        let mut waiting = vec![(Vec::new(), 0)];
+        while let Some((path, number)) = waiting.pop() {
+            let node = &nodes[number];
+            let (kind, body) = match node.text("kind") {
+                "directory" => ('d', Vec::new()),
+                "link" => ('l', node.bytes("body")),
+                _ => ('f', Vec::new()),
+            };
+            if number > 0 {
+                seen.add(&path[1..], kind, &body, number.to_string().into());
+            }
+            if kind == 'd' {
+                let below = |name: &[u8]| [&path, &b"/"[..], name].concat();
+                let entries = node.list("entries").iter();
+                waiting.extend(entries.map(|e| (below(&e.bytes("name")), e.number("node"))));
             }
         }
         seen
@@ -155,25 +155,30 @@ fn is_as_found(image: &[u8], directory: &Path) {
         return eprintln!("skipped: there is no find to compare with");
     };
     let shown = Seen::by_show(image);
-    let text = |path: &[u8]| path.escape_ascii().to_string();
-    for (path, kind, body) in found.objects.symmetric_difference(&shown.objects) {
-        let is_found = found.objects.contains(&(path.clone(), *kind, body.clone()));
-        let who = if is_found { "find" } else { "show" };
-        eprintln!("only by {who}: {kind} {} -> {}", text(path), text(body));
-    }
-    assert!(found.objects == shown.objects, "{directory:?}");
+    let text = |bytes: &[u8]| bytes.escape_ascii().to_string();
+    let object = |(path, kind, body): &(Vec<u8>, char, Vec<u8>)| {
+        format!("{kind} {} -> {}", text(path), text(body))
+    };
+    is_same(&found.objects, &shown.objects, object);
     let groups = |seen: Seen| seen.same.into_values().collect::<BTreeSet<_>>();
-    let (found, shown) = (groups(found), groups(shown));
-    for group in found.symmetric_difference(&shown) {
-        eprintln!("one object on one side alone: {:?}", group.iter().map(|path| text(path)));
-    }
-    assert!(found == shown, "{directory:?}");
+    let group = |paths: &BTreeSet<Vec<u8>>| {
+        paths.iter().map(|path| text(path)).collect::<Vec<_>>().join(", ")
+    };
+    is_same(&groups(found), &groups(shown), group);
 }
 
-/// Names and bodies of all sorts, and what no table can hold.
+/// That two sets are equal. What only one of them has is told.
+fn is_same<T: Ord>(found: &BTreeSet<T>, shown: &BTreeSet<T>, text: impl Fn(&T) -> String) {
+    let list = |only: Vec<&T>| only.into_iter().map(&text).collect::<Vec<_>>().join("\n");
+    let only_found = list(found.difference(shown).collect());
+    let only_shown = list(shown.difference(found).collect());
+    assert!(found == shown, "only found:\n{only_found}\nonly shown:\n{only_shown}");
+}
+
+/// Names and bodies of all sorts.
 fn awkward() -> Folder {
     let folder = Folder::new();
-    let long = "n".repeat(255);
+    let long = [b'n'; 255];
     let names: [&[u8]; 10] = [
         b"a\nb",
         b"\xff\xfe",
@@ -184,7 +189,7 @@ fn awkward() -> Folder {
         b"tree1:",
         b"mount1",
         b"...",
-        long.as_bytes(),
+        &long,
     ];
     for name in names {
         folder.directory(name);
@@ -192,6 +197,14 @@ fn awkward() -> Folder {
     }
     folder.directory("empty");
     folder.directory("far/below");
+    add_links(&folder);
+    let hard = [("a b/a b", "far/below/file"), ("ring", "far/link"), ("#/#", "second")];
+    let link = |(first, second)| fs::hard_link(folder.at(first), folder.at(second)).unwrap();
+    hard.into_iter().for_each(link);
+    folder
+}
+
+fn add_links(folder: &Folder) {
     let links: [(&str, &[u8]); 10] = [
         ("loop", b"loop"),
         ("ring", b"rong"),
@@ -207,11 +220,6 @@ fn awkward() -> Folder {
     for (name, body) in links {
         folder.link(name, body);
     }
-    for (first, second) in [("a b/a b", "far/below/file"), ("ring", "far/link"), ("#/#", "second")]
-    {
-        fs::hard_link(folder.at(first), folder.at(second)).unwrap();
-    }
-    folder
 }
 
 /// Where there is room for so short a path alone.
@@ -300,7 +308,7 @@ fn a_link_is_followed_to_the_directory_alone() {
 fn what_cannot_be_read_ends_it() {
     let (folder, new) = (Folder::new(), Folder::new());
     let closed = folder.directory("lab/closed");
-    fs::set_permissions(&closed, Permissions::from_mode(0)).unwrap();
+    fs::set_permissions(&closed, Permissions::from_mode(0o000)).unwrap();
     if fs::read_dir(&closed).is_ok() {
         return eprintln!("skipped: root may read every directory");
     }
@@ -405,7 +413,7 @@ const MOUNTS: &str = r#"
     cd "$1"
     mkdir -p "d/a/x" "d/b" "d/disk 1" "d/view" "d/z"
     : >d/a/f; : >d/a/x/deep; : >d/g
-    mount -t tmpfs none "d/disk 1" || exit 77
+    mount -t tmpfs none "d/disk 1"
     mkdir "d/disk 1/in" "d/disk 1/again"
     : >"d/disk 1/tare"
     mount -t tmpfs hidden "d/disk 1/in"
@@ -427,21 +435,23 @@ const MOUNTS: &str = r#"
     cmp plain told
 "#;
 
+/// The option by which `unshare` gives mounts of one's own, if it may.
+fn unshare(folder: &Folder) -> Option<&'static str> {
+    ["-m", "-rm"].into_iter().find(|option| {
+        let mount = [*option, "mount", "-t", "tmpfs", "none", folder.path()];
+        Command::new("unshare").args(mount).output().is_ok_and(|done| done.status.success())
+    })
+}
+
 #[test]
 fn mounts_become_directories_or_stay() {
     let folder = Folder::new();
-    let program = env!("CARGO_BIN_EXE_ventolaire");
-    let run = |unshare: &str| {
-        let mut command = Command::new("unshare");
-        command.args([unshare, "sh", "-c", MOUNTS, program, folder.path()]).output()
+    let Some(option) = unshare(&folder) else {
+        return eprintln!("skipped: no mounts are allowed here");
     };
-    let output = match run("-m") {
-        Ok(output) if output.status.success() => output,
-        _ => match run("-rm") {
-            Ok(output) if output.status.success() => output,
-            refused => return eprintln!("skipped: no mounts are allowed here: {refused:?}"),
-        },
-    };
+    let script = [option, "sh", "-c", MOUNTS, env!("CARGO_BIN_EXE_ventolaire"), folder.path()];
+    let output = Command::new("unshare").args(script).output().unwrap();
+    assert!(output.status.success(), "{output:?}");
     let told = String::from_utf8(output.stderr).unwrap();
     let on_file = "1 mount on a file became a file; a table has mounts on directories alone";
     let lines = ["7 mounts became directories; --mounts keeps them", on_file, on_file];

@@ -149,6 +149,10 @@ impl Tree {
             return None;
         }
         self.asked_at *= 2;
+        // Two nodes may turn out to be one where there are mounts, but no name or body goes.
+        if self.mounts.len() > 1 && self.text < Parts::IMAGE_MAX {
+            return None;
+        }
         // What else is wrong may be set right by what is still to be read.
         let is_limit = |error: &ManifestError| match &error.problem {
             Problem::Broken { broken, .. } => broken.rule == 1 || broken.rule == 3,
@@ -225,4 +229,89 @@ impl Tree {
 
 fn mount_name(number: usize) -> String {
     format!("mount{number}")
+}
+
+#[cfg(test)]
+mod tests {
+    use super::*;
+
+    /// A tree with mounts on these names of its top, not looked into yet.
+    fn tree(points: &[&[u8]]) -> Tree {
+        let mut tree = Tree::new();
+        tree.show(0, Identity(1, 1));
+        points.iter().for_each(|name| tree.mount(0, 0, name));
+        tree
+    }
+
+    fn text(tree: &Tree) -> String {
+        tree.manifest().build().unwrap();
+        tree.manifest().to_string()
+    }
+
+    #[test]
+    fn a_mount_shows_a_tree_or_what_is_known() {
+        let mut tree = tree(&[b"bind", b"disk"]);
+        let lab = tree.directory(0, b"lab", Some(Identity(1, 2)));
+        tree.leaf(lab, b"run", Identity(1, 3), Kind::File);
+        tree.leaf(0, b"again", Identity(1, 3), Kind::File);
+        assert_eq!(tree.show(1, Identity(1, 2)), lab);
+        tree.show(2, Identity(2, 1));
+        let lines = "dir   /\nfile  /again\ndir   /bind\ndir   /disk\ndir   /lab\n\
+            hard  /lab/run /again\ndir   tree1:\n\
+            mount /lab /bind as mount1\nmount tree1: /disk as mount2\n";
+        assert_eq!(text(&tree), lines);
+    }
+
+    /// First a part of a disk is met, then the whole of it.
+    #[test]
+    fn a_top_may_turn_out_to_be_in_a_directory() {
+        let mut tree = tree(&[b"part", b"whole"]);
+        let part = tree.show(1, Identity(2, 5));
+        tree.leaf(part, b"run", Identity(2, 6), Kind::File);
+        let whole = tree.show(2, Identity(2, 1));
+        assert_eq!(tree.directory(whole, b"sub", Some(Identity(2, 5))), part);
+        let lines = "dir   /\ndir   /part\ndir   /whole\n\
+            dir   tree1:\ndir   tree1:/sub\nfile  tree1:/sub/run\n\
+            mount tree1:/sub /part as mount1\nmount tree1: /whole as mount2\n";
+        assert_eq!(text(&tree), lines);
+    }
+
+    /// A mount shows the directory in which the one is that is packed.
+    #[test]
+    fn the_main_top_too() {
+        let mut tree = tree(&[b"up"]);
+        let above = tree.show(1, Identity(1, 9));
+        assert_eq!(tree.directory(above, b"lab", Some(Identity(1, 1))), 0);
+        let lines = "dir   /\ndir   /lab\ndir   /lab/up\nroot  /lab\nmount / /lab/up as mount1\n";
+        assert_eq!(text(&tree), lines);
+    }
+
+    /// What is below a point is seen in another mount of its directory, and what it is there.
+    #[test]
+    fn what_a_mount_hides_another_shows() {
+        let mut tree = tree(&[b"point", b"of_point", b"view"]);
+        let hidden = tree.show(2, Identity(1, 7));
+        tree.leaf(hidden, b"run", Identity(1, 8), Kind::Link(b"a".to_vec()));
+        assert_eq!(tree.show(3, Identity(1, 1)), 0);
+        assert_eq!(tree.directory(0, b"point", Some(Identity(1, 7))), hidden);
+        tree.show(1, Identity(3, 1));
+        let lines = "dir   /\ndir   /of_point\ndir   /point\nlink  /point/run a\ndir   /view\n\
+            dir   tree1:\nmount tree1: /point as mount1\n\
+            mount /point /of_point as mount2\nmount / /view as mount3\n";
+        assert_eq!(text(&tree), lines);
+    }
+
+    /// The builder is asked before there are as many bytes as in an image, and not each time.
+    #[test]
+    fn too_much_is_told_soon() {
+        let mut tree = tree(&[]);
+        let full = (0..Parts::IMAGE_MAX).find_map(|at| {
+            let name = format!("{at:08}");
+            tree.leaf(0, name.as_bytes(), Identity(1, 2 + at as u64), Kind::File);
+            tree.is_full().map(|error| (at, error.to_string()))
+        });
+        let (at, error) = full.unwrap();
+        assert_eq!(at + 1, 4_096);
+        assert!(error.starts_with("/00002339: rule 1 broken: "), "{error}");
+    }
 }
