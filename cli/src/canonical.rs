@@ -6,7 +6,7 @@ use crate::input;
 use crate::json::Object;
 use crate::output::{Failure, Output};
 use std::fmt;
-use ventolaire::{Broken, BuildError, Parts, Table};
+use ventolaire::{BuildError, Parts, Table};
 
 pub fn run(asked: &Canonical, output: &mut Output) -> Result<(), Failure> {
     if let Goal::Write(to) = &asked.goal {
@@ -51,11 +51,7 @@ impl fmt::Display for Without {
     fn fmt(&self, f: &mut fmt::Formatter) -> fmt::Result {
         match self {
             Without::Refused(broken) => write!(f, "{broken}"),
-            // Names and bodies that share text are written one by one.
-            Without::Built(BuildError::Broken(Broken { rule: 1, .. })) => {
-                f.write_str("without sharing in its text it has over 65,536 bytes")
-            }
-            Without::Built(error) => write!(f, "{error}"),
+            Without::Built(error) => f.write_str(&explain::unbuilt(*error)),
         }
     }
 }

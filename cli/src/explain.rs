@@ -2,7 +2,7 @@
 
 use crate::json::Object;
 use std::fmt;
-use ventolaire::{Broken, Cause, Record, Table};
+use ventolaire::{Broken, BuildError, Cause, Record, Table};
 
 /// A broken rule, and what breaks it.
 #[derive(Clone, Copy)]
@@ -41,6 +41,17 @@ impl fmt::Display for Explained {
             write!(f, " by {record}")?;
         }
         write!(f, ": {} (RULES {})", self.cause, self.cause.clause)
+    }
+}
+
+/// Why an accepted table's tree has no image of its own.
+pub fn unbuilt(error: BuildError) -> String {
+    match error {
+        // Names and bodies that share text are written one by one.
+        BuildError::Broken(Broken { rule: 1, .. }) => {
+            "without sharing in its text it has over 65,536 bytes".into()
+        }
+        error => error.to_string(),
     }
 }
 

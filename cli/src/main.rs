@@ -81,7 +81,7 @@ fn show(file: &OsStr, form: Form, output: &mut Output) -> Result<(), Failure> {
         .map_err(|why| format!("cannot show {}: {why}", escape::name(file)))?;
     match form {
         Form::Text => output.write(show::tree(&table)),
-        Form::Manifest => manifest::write(&table, output),
+        Form::Manifest => manifest::write(file, &table, output),
         Form::Dot => output.write(dot::graph(&table)),
         Form::Json => output.line(list::table(&table)),
     }

@@ -1,18 +1,22 @@
 //! A table as a manifest, and what its image has that a manifest doesn't say.
 
 use crate::output::{self, Failure, Output};
-use crate::show;
+use crate::{explain, input, show};
+use std::ffi::OsStr;
 use ventolaire::{Manifest, Node, Table};
 
 /// Prints the manifest of a table. Where an image built of it would be another, it is told by what.
-pub fn write(table: &Table, output: &mut Output) -> Result<(), Failure> {
-    let manifest = Manifest::from(table);
+pub fn write(file: &OsStr, table: &Table, output: &mut Output) -> Result<(), Failure> {
+    let manifest = Manifest::try_from(table).map_err(|error| {
+        let why = explain::unbuilt(error);
+        format!("cannot show {} as a manifest: {why}", input::shown(file))
+    })?;
     output.write(manifest.to_string())?;
     output.flush()?;
     match manifest.build() {
         Ok(built) if built == table.image() => {}
         Ok(built) => changes(table, &built).into_iter().for_each(output::tell),
-        Err(error) => output::tell(format_args!("built, this manifest is refused: {error}")),
+        Err(error) => return Err(format!("the manifest is refused: {error}").into()),
     }
     Ok(())
 }

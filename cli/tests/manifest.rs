@@ -139,18 +139,16 @@ fn directories_without_a_name_are_kept() {
 
 /// 17 links that share a body of 4,095 bytes.
 #[test]
-fn without_sharing_a_manifest_may_be_refused() {
+fn what_is_too_long_without_sharing_has_no_manifest() {
     let mut image = b"TOC1\x12\0\x01\0\0\0\0\0\xff\x0f\0\0".to_vec();
     image.extend((20 + 12 * 18 + 8 + 4_095_u32).to_le_bytes());
     image.extend([1, 0, 0, 0, 0, 0, 0, 0, 0, 0, 0, 0]);
     image.extend([3, 0, 0, 0, 0, 0, 0, 0, 0xff, 0x0f, 0, 0].repeat(17));
     image.extend([0; 8]);
     image.extend([b'b'; 4_095]);
-    let (manifest, told) = shown(&image);
-    assert_eq!(manifest.lines().count(), 17);
-    // 20 + 8 + 12 + 15 * 4,107 is 61,645, and one more is too much.
-    let why = "lost16: rule 1 broken: the image would have 69859 bytes, over 65,536 (RULES 4.1)";
-    assert_eq!(told, format!("ventolaire: built, this manifest is refused: {why}\n"));
+    let why = "without sharing in its text it has over 65,536 bytes";
+    let message = failed(run(&image, &["show", "-", "--manifest"]));
+    assert_eq!(message, format!("cannot show standard input as a manifest: {why}"));
 }
 
 #[test]

@@ -6,6 +6,8 @@ mod descriptors;
 mod errors;
 mod handles;
 mod lookups;
+#[cfg(feature = "std")]
+mod manifests;
 mod paths;
 mod sets;
 mod tables;

@@ -4,6 +4,7 @@ use crate::build::{Build, Told as BuildTold};
 use crate::builder::Parts;
 use crate::halving::Looked;
 use crate::lookup::Lookup;
+use crate::manifest::{self, Told as ManifestTold};
 use crate::resolver::{
     self, accept, handle_is_checked, resolve_field, resolve_with_events, second_answer, Answer,
     Event, Met, Place, Restrictions, Table, BENEATH, IN_ROOT, NO_MAGICLINKS, NO_SYMLINKS, NO_XDEV,
@@ -120,6 +121,8 @@ pub enum Case {
     Sequence(Sequence),
     Lookup(Lookup),
     Build(Build),
+    /// The manifest of a table.
+    Manifest(Vec<u8>),
 }
 
 /// The case as the arguments of `compare replay`.
@@ -138,6 +141,7 @@ impl fmt::Display for Case {
             }
             Case::Lookup(lookup) => lookup.fmt(f),
             Case::Build(build) => build.fmt(f),
+            Case::Manifest(image) => write!(f, "{} --manifest", check_arguments(image)),
         }
     }
 }
@@ -178,6 +182,7 @@ pub enum Alike {
         answer: Looked,
     },
     Build(BuildTold),
+    Manifest(ManifestTold),
 }
 
 pub fn same(what: &str, expected: &[u64], got: Vec<u64>) -> Result<(), Difference> {
@@ -208,13 +213,14 @@ impl Case {
             Case::Sequence(sequence) => sequence.compare(subject),
             Case::Lookup(lookup) => lookup.compare(subject),
             Case::Build(build) => build.compare(subject),
+            Case::Manifest(image) => manifest::compare(image, subject),
         }
     }
 
     /// The image; for a build that which its parts are as they stand.
     pub fn image(&self) -> Cow<'_, [u8]> {
         match self {
-            Case::Table(image) => image.into(),
+            Case::Table(image) | Case::Manifest(image) => image.into(),
             Case::Call(call) => (&call.image).into(),
             Case::Sequence(sequence) => (&sequence.image).into(),
             Case::Lookup(lookup) => (&lookup.image).into(),
@@ -225,6 +231,7 @@ impl Case {
     pub fn with_image(&self, image: Vec<u8>) -> Case {
         match self.clone() {
             Case::Table(_) => Case::Table(image),
+            Case::Manifest(_) => Case::Manifest(image),
             Case::Call(call) => Case::Call(Call { image, ..call }),
             Case::Sequence(sequence) => Case::Sequence(Sequence { image, ..sequence }),
             Case::Lookup(lookup) => Case::Lookup(Lookup { image, ..lookup }),

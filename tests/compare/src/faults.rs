@@ -21,9 +21,14 @@ macro_rules! faults {
                 self.found_by().starts_with("build-")
             }
 
-            /// The name of a worked case that finds it.
+            /// The name of a worked case that finds it, if one does.
             pub fn found_by(self) -> &'static str {
                 match self { $(Fault::$name => $case),* }
+            }
+
+            /// Whether it is one of manifests: no worked case asks for these.
+            pub fn is_of_manifests(self) -> bool {
+                self.found_by().is_empty()
             }
         }
     };
@@ -247,4 +252,11 @@ faults! {
     BytesShort: "the length told is one less", "build-bench";
     BytesOfBuffer: "the length told is that of the buffer", "build-room-bench-317";
     TouchedText: "the last byte of the lent text is changed", "build-bench";
+    // Manifests, which no worked case asks for.
+    ManifestBody: "the last byte of a body is dropped", "";
+    ManifestParent: "the parent of a mount is forgotten", "";
+    ManifestNameless: "a directory without a name is lost", "";
+    ManifestTwoFiles: "a hard link is made a second file", "";
+    ManifestRoot: "what mount 0 shows is forgotten", "";
+    ManifestTarget: "the mount of a magic link's target is forgotten", "";
 }

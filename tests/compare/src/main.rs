@@ -23,6 +23,7 @@ mod faulty;
 mod generate;
 mod halving;
 mod lookup;
+mod manifest;
 mod plant;
 mod report;
 mod resolver;
@@ -52,24 +53,26 @@ const HELP: &str = "\
 Compares the resolver, the descriptors, the lookups and the builder with independent second ones.
 
 compare [--seed N] [--calls N] [--tables N] [--sequences N] [--lookups N] [--builds N]
-        [--seconds N] [--stats] [--announce]
+        [--manifests N] [--seconds N] [--stats] [--announce]
 compare replay --image HEX [[--mount N] [--node N] [--mark 0|1] --path HEX --how HEX
                [--added N] [--added-mark 0|1]]
 compare replay --image HEX --sequence CALL[,CALL]..
 compare replay --image HEX [--node N] --name HEX
+compare replay --image HEX --manifest
 compare replay [--nodes HEX] [--mounts HEX] [--entries HEX] [--text HEX] --room N
-compare show [--seed N] --call N | --table N | --sequence N | --lookup N | --build N
+compare show [--seed N] --call N | --table N | --sequence N | --lookup N | --build N | --manifest N
 compare cases FILE
 compare faults [--seed N] [--cases FILE]
 compare --help
 
 Without a command, inputs are made from the seed, 1 if not given: as many as said, or as many as
 take so many seconds. A sequence is up to 200 calls on descriptors, a lookup is that of a name in
-one directory, a build writes an image from its parts into a buffer with room for so many bytes. A
-difference is shrunk and printed as the arguments of `compare replay`, which shows both answers to
-it; a CALL on descriptors is open:NUMBER:MARK:PATH:HOW[:ADDED:ADDED_MARK] with the bytes in
-hexadecimal, dup:NUMBER, close:NUMBER or set_mark:NUMBER. `compare show` prints one input of a run.
-`compare cases` asks both sides for the answers to the list of worked cases, crates/cases/stdin.
+one directory, a build writes an image from its parts into a buffer with room for so many bytes, and
+a manifest is that of a table, of which an image with the same tree is built again. A difference is
+shrunk and printed as the arguments of `compare replay`, which shows both answers to it; a CALL on
+descriptors is open:NUMBER:MARK:PATH:HOW[:ADDED:ADDED_MARK] with the bytes in hexadecimal,
+dup:NUMBER, close:NUMBER or set_mark:NUMBER. `compare show` prints one input of a run. `compare
+cases` asks both sides for the answers to the list of worked cases, crates/cases/stdin.
 `compare faults` plants faults in a resolver and sees that each is found by the comparison, and with
 a list of cases also by the case that it is known to be found by. In a build without the library,
 `--fault NAME` plants one of them.
@@ -78,8 +81,14 @@ The last line counts what passed and what failed. The status is 0, 1 if anything
 arguments or a file are wrong.
 ";
 
-const USUAL: Wanted =
-    Wanted { tables: 100_000, calls: 300_000, sequences: 30_000, lookups: 500_000, builds: 60_000 };
+const USUAL: Wanted = Wanted {
+    tables: 100_000,
+    calls: 300_000,
+    sequences: 30_000,
+    lookups: 500_000,
+    builds: 60_000,
+    manifests: 20_000,
+};
 /// After so many differences a run ends.
 const MOST_DIFFERENCES: u64 = 3;
 /// A case that takes longer has not ended.
@@ -161,7 +170,7 @@ struct Run {
 
 impl Run {
     fn of(arguments: &Arguments) -> Result<Run, String> {
-        let counts = ["--tables", "--calls", "--sequences", "--lookups", "--builds"];
+        let counts = ["--tables", "--calls", "--sequences", "--lookups", "--builds", "--manifests"];
         let options = [&counts[..], &["--seed", "--seconds", "--fault"]].concat();
         arguments.known(&["--stats", "--announce"], &options)?;
         let seconds = arguments.number("--seconds")?;
@@ -177,6 +186,7 @@ impl Run {
             sequences: count("--sequences", USUAL.sequences)?,
             lookups: count("--lookups", USUAL.lookups)?,
             builds: count("--builds", USUAL.builds)?,
+            manifests: count("--manifests", USUAL.manifests)?,
         };
         Ok(Run {
             seed: arguments.number("--seed")?.unwrap_or(1),
@@ -228,7 +238,7 @@ fn run(arguments: &Arguments) -> Result<bool, String> {
         "seed {}: {} tables checked, {} of them accepted; {} calls, {} of them found, \
          each with a second call, {} of these stopped by an added restriction; {} sequences \
          of {} calls on descriptors, {} of them with all 64 open; {} lookups, {} of them \
-         found; {} builds, {} of them written; {:.1} s",
+         found; {} builds, {} of them written; {} manifests, {} of them built again; {:.1} s",
         run.seed,
         stats.tables,
         stats.accepted,
@@ -242,6 +252,8 @@ fn run(arguments: &Arguments) -> Result<bool, String> {
         stats.lookups.found,
         stats.builds.builds,
         stats.builds.written,
+        stats.manifests.manifests,
+        stats.manifests.rewritten,
         since.elapsed().as_secs_f64()
     );
     println!("{} passed, {failed} failed", stats.cases());
@@ -254,6 +266,9 @@ fn given(arguments: &Arguments) -> Result<Case, String> {
     let bytes = ["--image", "--path", "--how", "--name"];
     if PARTS.iter().any(|name| arguments.flag(name)) {
         return given_build(arguments);
+    }
+    if arguments.flag("--manifest") {
+        return given_manifest(arguments);
     }
     arguments.known(&[], &[&numbers[..], &bytes, &["--sequence", "--fault"]].concat())?;
     let image = arguments.bytes("--image")?;
@@ -286,6 +301,11 @@ fn given(arguments: &Arguments) -> Result<Case, String> {
         added: number("--added")?,
         added_mark: number("--added-mark")? != 0,
     }))
+}
+
+fn given_manifest(arguments: &Arguments) -> Result<Case, String> {
+    arguments.known(&["--manifest"], &["--image", "--fault"])?;
+    Ok(Case::Manifest(arguments.bytes("--image")?))
 }
 
 /// What tells a build.
@@ -328,7 +348,7 @@ fn replay(arguments: &Arguments) -> Result<bool, String> {
 /// Both answers, besides that to the check of the image.
 fn print_answers(case: &Case, subject: &mut dyn Subject) {
     match case {
-        Case::Table(_) => {}
+        Case::Table(_) | Case::Manifest(_) => {}
         Case::Call(call) => call_answers(call, subject),
         Case::Sequence(sequence) => {
             let (got, _) = sequence.got(subject, Way::CHECKED);
@@ -376,10 +396,13 @@ fn answers(title: &str, call: &Call, subject: &mut dyn Subject) {
 
 /// The bytes of one case of a run, without comparing it.
 fn show(arguments: &Arguments) -> Result<bool, String> {
-    arguments.known(&[], &["--seed", "--call", "--table", "--sequence", "--lookup", "--build"])?;
+    let streams = ["call", "table", "sequence", "lookup", "build", "manifest"];
+    let options = streams.map(|stream| format!("--{stream}"));
+    let options: Vec<&str> = options.iter().map(String::as_str).chain(["--seed"]).collect();
+    arguments.known(&[], &options)?;
     let seed = arguments.number("--seed")?.unwrap_or(1);
     let mut numbers = Vec::new();
-    for stream in ["call", "table", "sequence", "lookup", "build"] {
+    for stream in streams {
         let number = arguments.number(&format!("--{stream}"))?;
         numbers.extend(number.map(|number| (stream, number)));
     }
@@ -387,7 +410,7 @@ fn show(arguments: &Arguments) -> Result<bool, String> {
         [(stream, number)] => generate::one(seed, stream, number),
         _ => None,
     };
-    let wanted = "show wants --call N, --table N, --sequence N, --lookup N or --build N";
+    let wanted = "show wants one number: --call N, --table N or another stream";
     let case = case.ok_or(wanted)?;
     describe(&case);
     println!("replay {case}");

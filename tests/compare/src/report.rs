@@ -43,7 +43,7 @@ pub fn describe(case: &Case) {
         }
     }
     match case {
-        Case::Table(_) => {}
+        Case::Table(_) | Case::Manifest(_) => {}
         Case::Call(call) => describe_call(call),
         Case::Sequence(sequence) => {
             for (number, step) in sequence.steps.iter().enumerate() {

@@ -424,7 +424,7 @@ struct Parts<'a> {
 /// The calls of a case that have a path: itself, or the opens of a sequence.
 fn parts(case: &mut Case) -> Vec<Parts<'_>> {
     match case {
-        Case::Table(_) | Case::Lookup(_) | Case::Build(_) => Vec::new(),
+        Case::Table(_) | Case::Lookup(_) | Case::Build(_) | Case::Manifest(_) => Vec::new(),
         Case::Call(Call { mark, path, how, added, added_mark, .. }) => {
             vec![Parts { mark, path, how, added, added_mark }]
         }

@@ -3,6 +3,7 @@
 mod builds;
 mod handles;
 mod lookups;
+mod manifests;
 mod sequences;
 
 use crate::builder::ERANGE;
@@ -12,6 +13,7 @@ use crate::resolver::{Answer, Event, Met};
 use builds::Builds;
 use handles::Handles;
 use lookups::Lookups;
+use manifests::Manifests;
 use sequences::Sequences;
 use std::collections::BTreeMap;
 use std::fmt::Display;
@@ -36,6 +38,7 @@ pub struct Stats {
     pub descriptors: Sequences,
     pub lookups: Lookups,
     pub builds: Builds,
+    pub manifests: Manifests,
 }
 
 fn share(count: u64, of: u64) -> f64 {
@@ -97,6 +100,7 @@ impl Stats {
             + self.descriptors.sequences
             + self.lookups.lookups
             + self.builds.builds
+            + self.manifests.manifests
     }
 
     pub fn note(&mut self, alike: &Alike) {
@@ -126,6 +130,7 @@ impl Stats {
             Alike::Sequence { accepted, told } => self.descriptors.note(*accepted, told),
             Alike::Lookup { count, answer } => self.lookups.note(*count, answer),
             Alike::Build(told) => self.builds.note(told),
+            Alike::Manifest(told) => self.manifests.note(told),
         }
     }
 
@@ -188,7 +193,8 @@ impl Stats {
         let others = handles
             .chain(self.descriptors.missing())
             .chain(self.lookups.missing())
-            .chain(self.builds.missing());
+            .chain(self.builds.missing())
+            .chain(self.manifests.missing());
         rules.chain(answers).chain(events).chain(others).collect()
     }
 
@@ -207,6 +213,7 @@ impl Stats {
         self.descriptors.print();
         self.lookups.print();
         self.builds.print();
+        self.manifests.print();
     }
 
     fn print_answers(&self) {

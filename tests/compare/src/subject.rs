@@ -5,6 +5,7 @@ use crate::builder::Parts;
 use crate::descriptors::SLOTS;
 use crate::faults::Fault;
 use crate::faulty;
+use crate::manifest::Rewritten;
 use data::sequence::Step;
 
 /// The bytes lent to a call. They are handed over as bytes that could be
@@ -54,6 +55,8 @@ pub trait Subject {
     fn lookup(&mut self, image: &mut [u8], node: u64, name: &mut [u8], way: Way) -> Vec<u64>;
     /// A build into the buffer, with room for so many numbers.
     fn build(&mut self, parts: &mut Parts, buffer: &mut [u8], room: usize) -> Vec<u64>;
+    /// The image of the manifest of an image, which must be accepted.
+    fn rewritten(&mut self, image: &[u8]) -> Rewritten;
 }
 
 /// The second shape of the resolver, with a fault planted or none.
@@ -101,6 +104,10 @@ impl Subject for Planted {
             return Vec::new();
         }
         faulty::build(self.0, parts, buffer).to_vec()
+    }
+
+    fn rewritten(&mut self, image: &[u8]) -> Rewritten {
+        faulty::rewritten(self.0, image)
     }
 }
 

@@ -114,6 +114,7 @@ impl fmt::Display for ManifestError {
         match (&self.problem, &self.path[..]) {
             // Of no object yet.
             (Problem::Unexpected { .. }, _) => {}
+            (Problem::NoPath, path) => write!(f, "{}: ", Quoted(path))?,
             // A tree's name has its colon.
             (_, path @ [.., b':']) if !path.contains(&b'/') => write!(f, "{} ", Quoted(path))?,
             (_, path) => write!(f, "{}: ", Quoted(path))?,

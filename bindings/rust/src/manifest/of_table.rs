@@ -2,29 +2,40 @@
 
 use super::object::Object;
 use super::{Item, Kind, Manifest};
-use crate::{Node, Place, Table};
+use crate::{BuildError, Node, Place, Table};
 
 /// The manifest of all that a table holds, directories without a name too. Of an image that a
 /// manifest was built to, it builds the same image; of another, one with the same tree but for
 /// the numbers of nodes and mounts.
 ///
+/// Refused is a table whose names and bodies share so much text that they would be too long for
+/// an image one by one: no manifest builds its tree, and its paths can be a thousand times longer
+/// than itself.
+///
 /// ```
 /// use ventolaire::{bench_tree, Manifest, Table};
 ///
-/// let manifest = Manifest::from(&Table::new(bench_tree::IMAGE)?);
+/// let manifest = Manifest::try_from(&Table::new(bench_tree::IMAGE)?)?;
 /// assert!(manifest.to_string().contains("\nmount tree1: /lab/pool\n"));
 /// let image = manifest.build()?;
-/// assert_eq!(Manifest::from(&Table::new(&image)?).build()?, image);
+/// assert_eq!(Manifest::try_from(&Table::new(&image)?)?.build()?, image);
 /// # Ok::<(), Box<dyn std::error::Error>>(())
 /// ```
-impl From<&Table<'_>> for Manifest {
-    fn from(table: &Table) -> Self {
+impl TryFrom<&Table<'_>> for Manifest {
+    type Error = BuildError;
+
+    fn try_from(table: &Table) -> Result<Self, BuildError> {
+        // Without room nothing is written, but a broken rule is told first.
+        match table.parts().build_into(&mut []) {
+            Ok(_) | Err(BuildError::Short { .. }) => {}
+            Err(error) => return Err(error),
+        }
         let mut described = Described::of(table);
         described.trees();
         described.rest();
         described.lead();
         described.hang();
-        described.manifest
+        Ok(described.manifest)
     }
 }
 

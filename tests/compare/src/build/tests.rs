@@ -2,6 +2,7 @@
 
 use super::*;
 use crate::builder::ERANGE;
+use crate::manifest::Rewritten;
 use crate::subject::{Handle, Lent, Planted, Slots, Way};
 use data::image::Tree;
 use data::sequence::Step;
@@ -89,6 +90,10 @@ impl Subject for Slipping {
 
     fn act(&mut self, image: &mut [u8], slots: &mut Slots, step: &mut Step, way: Way) -> Vec<u64> {
         right().act(image, slots, step, way)
+    }
+
+    fn rewritten(&mut self, image: &[u8]) -> Rewritten {
+        right().rewritten(image)
     }
 
     fn lookup(&mut self, image: &mut [u8], node: u64, name: &mut [u8], way: Way) -> Vec<u64> {

@@ -13,12 +13,14 @@ mod descriptors;
 mod handle;
 mod how;
 mod lookup;
+mod manifest;
 mod table;
 mod walk;
 
 pub use build::build;
 pub use descriptors::{act, start};
 pub use lookup::lookup;
+pub use manifest::rewritten;
 
 use crate::faults::Fault;
 use crate::resolver::{BENEATH, EINVAL, ENAMETOOLONG, ENOENT, EUCLEAN, EXDEV};

@@ -1,9 +1,9 @@
 //! Seeded inputs: tables in many shapes, damage to them, calls, sequences of calls on
-//! descriptors, lookups, and builds.
+//! descriptors, lookups, builds, and manifests.
 //!
 //! Most calls are meant to reach the walk and go on for several components,
 //! so paths are grown along the table with the resolver itself. A case is
-//! fixed by the seed, its stream (tables, calls, sequences, lookups or builds) and its number.
+//! fixed by the seed, its stream (tables, calls and so on) and its number.
 //!
 //! A table begins with nodes (`nodes`), which are named (`names`), mounted
 //! (`mounts`) and given targets and bodies (`bodies`), with links that lead on and
@@ -52,6 +52,7 @@ const CALLS_A_GROUP: u64 = 12;
 const SEQUENCES_A_GROUP: u64 = 1;
 const LOOKUPS_A_GROUP: u64 = 24;
 const BUILDS_A_GROUP: u64 = 6;
+const MANIFESTS_A_GROUP: u64 = 1;
 
 /// Some checks of one table: as it is, and damaged.
 fn table_group(seed: u64, group: u64) -> Vec<Case> {
@@ -89,6 +90,11 @@ fn build_group(seed: u64, group: u64) -> Vec<Case> {
     builds(&mut dice, BUILDS_A_GROUP as usize).into_iter().map(Case::Build).collect()
 }
 
+/// The manifest of one table, nearly always an accepted one.
+fn manifest_group(seed: u64, group: u64) -> Vec<Case> {
+    vec![Case::Manifest(table(&mut Dice::new(seed, 10, group)))]
+}
+
 /// The cases of a group, by the seed and its number.
 type Group = fn(u64, u64) -> Vec<Case>;
 
@@ -107,6 +113,7 @@ pub fn one(seed: u64, stream: &str, number: u64) -> Option<Case> {
         "sequence" => (sequence_group as Group, SEQUENCES_A_GROUP),
         "lookup" => (lookup_group as Group, LOOKUPS_A_GROUP),
         "build" => (build_group as Group, BUILDS_A_GROUP),
+        "manifest" => (manifest_group as Group, MANIFESTS_A_GROUP),
         _ => return None,
     };
     group(seed, number / many).into_iter().nth((number % many) as usize)
@@ -120,12 +127,13 @@ pub struct Wanted {
     pub sequences: u64,
     pub lookups: u64,
     pub builds: u64,
+    pub manifests: u64,
 }
 
 /// All the cases of a run, a group of each stream in turn.
 pub struct Cases {
     seed: u64,
-    streams: [Stream; 5],
+    streams: [Stream; 6],
     ready: VecDeque<Numbered>,
 }
 
@@ -163,6 +171,7 @@ impl Cases {
             stream("sequence", sequence_group, SEQUENCES_A_GROUP, wanted.sequences),
             stream("lookup", lookup_group, LOOKUPS_A_GROUP, wanted.lookups),
             stream("build", build_group, BUILDS_A_GROUP, wanted.builds),
+            stream("manifest", manifest_group, MANIFESTS_A_GROUP, wanted.manifests),
         ];
         Cases { seed, streams, ready: VecDeque::new() }
     }

@@ -11,8 +11,14 @@ use data::image::Tree;
 #[test]
 fn the_two_shapes_agree_and_all_occurs() {
     let mut stats = Stats::default();
-    let wanted =
-        Wanted { tables: 3_000, calls: 9_000, sequences: 500, lookups: 3_000, builds: 6_000 };
+    let wanted = Wanted {
+        tables: 3_000,
+        calls: 9_000,
+        sequences: 500,
+        lookups: 3_000,
+        builds: 6_000,
+        manifests: 2_000,
+    };
     for numbered in Cases::new(5, wanted) {
         let alike = numbered.case.compare(&mut Planted(None));
         match alike {
@@ -25,19 +31,26 @@ fn the_two_shapes_agree_and_all_occurs() {
 
 #[test]
 fn a_case_stands_by_itself() {
-    let wanted = Wanted { tables: 50, calls: 100, sequences: 20, lookups: 100, builds: 50 };
+    let wanted =
+        Wanted { tables: 50, calls: 100, sequences: 20, lookups: 100, builds: 50, manifests: 50 };
     for numbered in Cases::new(9, wanted) {
         let again = one(9, numbered.stream, numbered.number);
         assert!(again == Some(numbered.case));
     }
-    let few = Wanted { tables: 3, calls: 5, sequences: 2, lookups: 7, builds: 4 };
-    assert_eq!(Cases::new(9, few).count(), 21);
+    let few = Wanted { tables: 3, calls: 5, sequences: 2, lookups: 7, builds: 4, manifests: 3 };
+    assert_eq!(Cases::new(9, few).count(), 24);
 }
 
 #[test]
 fn faults_are_found() {
-    let wanted =
-        Wanted { tables: 1_000, calls: 3_000, sequences: 300, lookups: 3_000, builds: 1_000 };
+    let wanted = Wanted {
+        tables: 1_000,
+        calls: 3_000,
+        sequences: 300,
+        lookups: 3_000,
+        builds: 1_000,
+        manifests: 1_000,
+    };
     for fault in [
         Fault::RootsParent,
         Fault::UnknownLow32,
@@ -45,6 +58,7 @@ fn faults_are_found() {
         Fault::MarkShared,
         Fault::LaterMiddle,
         Fault::BodiesFirst,
+        Fault::ManifestTwoFiles,
     ] {
         let mut subject = Planted(Some(fault));
         let mut cases = Cases::new(1, wanted);

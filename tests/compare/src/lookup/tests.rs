@@ -2,6 +2,7 @@
 
 use super::*;
 use crate::builder::Parts;
+use crate::manifest::Rewritten;
 use crate::subject::{Handle, Lent, Planted, Slots};
 use data::sequence::Step;
 use data::BENCH_TREE;
@@ -45,6 +46,10 @@ impl Subject for Slipping {
 
     fn act(&mut self, image: &mut [u8], slots: &mut Slots, step: &mut Step, way: Way) -> Vec<u64> {
         Planted(Option::None).act(image, slots, step, way)
+    }
+
+    fn rewritten(&mut self, image: &[u8]) -> Rewritten {
+        Planted(Option::None).rewritten(image)
     }
 
     fn lookup(&mut self, image: &mut [u8], node: u64, name: &mut [u8], way: Way) -> Vec<u64> {

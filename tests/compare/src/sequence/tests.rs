@@ -2,6 +2,7 @@
 
 use super::*;
 use crate::builder::Parts;
+use crate::manifest::Rewritten;
 use crate::subject::{Handle, Lent, Planted};
 use data::{how, BENCH_TREE};
 
@@ -122,6 +123,10 @@ impl Subject for Slipping {
             slots[reply[6] as usize] ^= u64::from(self.has(AcceptedSlot)) << 60;
         }
         reply
+    }
+
+    fn rewritten(&mut self, image: &[u8]) -> Rewritten {
+        Planted(None).rewritten(image)
     }
 
     fn lookup(&mut self, image: &mut [u8], node: u64, name: &mut [u8], way: Way) -> Vec<u64> {

@@ -8,6 +8,7 @@
 use super::{Handle, Lent, Slots, Subject, Way};
 use crate::builder::Parts;
 use crate::descriptors::SLOTS;
+use crate::manifest::Rewritten;
 use data::sequence::{Open, Step};
 use ventolaire_sys::{
     ventolaire_build, ventolaire_check, ventolaire_close, ventolaire_descriptors, ventolaire_dup,
@@ -15,7 +16,7 @@ use ventolaire_sys::{
     ventolaire_resolve, ventolaire_set_mark, ventolaire_start, ventolaire_start_accepted,
 };
 // It is this crate that has the library linked.
-use ventolaire as _;
+use ventolaire::{BuildError, Manifest, ManifestError, Problem, Table};
 
 /// What stands in the output before a call, and must still stand behind
 /// the numbers written after it.
@@ -171,6 +172,25 @@ impl Subject for Linked {
             )
         });
         written(&out, room, count)
+    }
+
+    fn rewritten(&mut self, image: &[u8]) -> Rewritten {
+        let broken = |error: ManifestError| match error.problem {
+            Problem::Broken { broken, .. } => broken.rule,
+            _ => 0,
+        };
+        let table = Table::new(image).map_err(|broken| broken.rule)?;
+        let manifest = Manifest::try_from(&table).map_err(|error| match error {
+            BuildError::Broken(broken) => broken.rule,
+            _ => 0,
+        })?;
+        let read = Manifest::parse(manifest.to_string()).map_err(broken)?;
+        let image = read.build().map_err(broken)?;
+        // As it is, it gives the same as its text.
+        match manifest.build() {
+            Ok(same) if same == image => Ok(image),
+            _ => Err(0),
+        }
     }
 }
 

@@ -17,7 +17,8 @@ pub trait Subject {
     }
 
     fn of_table(&self, table: &Table) -> Manifest {
-        Manifest::from(table)
+        // What is built has one; an empty one builds another image.
+        Manifest::try_from(table).unwrap_or_default()
     }
 }
 

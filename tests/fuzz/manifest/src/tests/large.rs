@@ -101,7 +101,7 @@ fn shapes() -> impl Iterator<Item = Shape> {
 /// Reads a text, builds it, and makes a manifest of the table, as far as each goes.
 fn through(text: &[u8]) -> Option<usize> {
     let image = Manifest::parse(text).ok()?.build().ok()?;
-    Some(Manifest::from(&Table::new(&image).ok()?).to_string().len())
+    Some(Manifest::try_from(&Table::new(&image).ok()?).ok()?.to_string().len())
 }
 
 #[test]
