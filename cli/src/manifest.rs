@@ -1,7 +1,7 @@
 //! A table as a manifest, and what its image has that a manifest doesn't say.
 
 use crate::output::{self, Failure, Output};
-use crate::{explain, input, show};
+use crate::{explain, input};
 use std::ffi::OsStr;
 use ventolaire::{Manifest, Node, Table};
 
@@ -27,7 +27,7 @@ fn changes(table: &Table, built: &[u8]) -> Vec<String> {
     // The same records, the text in order.
     let ordered = table.parts().build();
     let ordered = ordered.as_deref().unwrap_or_default();
-    let nameless: usize = show::nameless(table).iter().map(Vec::len).sum();
+    let nameless = table.nameless().len();
     let moved = ordered != table.image() && shared == 0 && gaps == 0;
     let counted = |count: usize, one: &str, many: &str| match count {
         1 => format!("1 {one}"),

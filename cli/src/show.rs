@@ -32,17 +32,9 @@ pub fn tree(table: &Table) -> String {
 
 /// Of each node, the directories in it that have no name.
 pub fn nameless(table: &Table) -> Vec<Vec<u64>> {
-    let count = table.nodes().len();
-    let mut named = vec![false; count];
-    table.entries().for_each(|entry| named[entry.node as usize] = true);
-    let mut nameless = vec![Vec::new(); count];
-    for (number, node) in table.nodes() {
-        match node {
-            Node::Directory { parent, .. } if parent != number && !named[number as usize] => {
-                nameless[parent as usize].push(number);
-            }
-            _ => {}
-        }
+    let mut nameless = vec![Vec::new(); table.nodes().len()];
+    for (number, parent) in table.nameless() {
+        nameless[parent as usize].push(number);
     }
     nameless
 }

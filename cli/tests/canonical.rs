@@ -5,7 +5,7 @@
 
 mod common;
 
-use common::{answer, answer_to, error, image, program, Named};
+use common::{answer, answer_to, error, image, program, shared_image, Named};
 use std::fs::{self, Permissions};
 use std::os::unix::fs::{symlink, PermissionsExt};
 use std::process::Command;
@@ -91,16 +91,9 @@ fn a_refused_image_has_none() {
     assert!(!new.0.exists());
 }
 
-/// 17 links that share a body of 4,095 bytes: one by one these take 69,615.
 #[test]
 fn an_image_may_be_too_long_without_sharing() {
-    let mut image = b"TOC1\x12\0\x01\0\0\0\0\0\xff\x0f\0\0".to_vec();
-    image.extend((20 + 12 * 18 + 8 + 4_095_u32).to_le_bytes());
-    image.extend([1, 0, 0, 0, 0, 0, 0, 0, 0, 0, 0, 0]);
-    image.extend([3, 0, 0, 0, 0, 0, 0, 0, 0xff, 0x0f, 0, 0].repeat(17));
-    image.extend([0; 8]);
-    image.extend([b'b'; 4_095]);
-    let image = Named::file(&image);
+    let image = Named::file(&shared_image());
     assert_eq!(answer(["check", image.path()]), (0, "accepted\n".into()));
     let why = "without sharing in its text it has over 65,536 bytes";
     let line = format!("not canonical: {why}\n");

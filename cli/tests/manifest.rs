@@ -2,29 +2,17 @@
 
 mod common;
 
-use common::{answer, answer_to, error, failed, image, program, Named};
+use common::{answer, answer_to, error, failed, image, run, shared_image, Named};
 use std::fs;
-use std::io::Write;
-use std::process::{Output, Stdio};
 use ventolaire::bench_tree::IMAGE;
 use ventolaire::Table;
 
 const BENCH_TREE: &str = include_str!("../../examples/bench_tree.manifest");
 const PAGE: &str = include_str!("../../docs/MANIFEST.md");
 
-/// A run of the program with bytes on standard input.
-fn run(input: &[u8], arguments: &[&str]) -> Output {
-    let mut program = program();
-    let program = program.args(arguments).stdin(Stdio::piped());
-    let mut child = program.stdout(Stdio::piped()).stderr(Stdio::piped()).spawn().unwrap();
-    // Not all of it need be read.
-    let _ = child.stdin.take().unwrap().write_all(input);
-    child.wait_with_output().unwrap()
-}
-
 /// The image of a manifest.
 fn built(manifest: &[u8]) -> Vec<u8> {
-    let output = run(manifest, &["build", "-"]);
+    let output = run(manifest, ["build", "-"]);
     assert_eq!(String::from_utf8_lossy(&output.stderr), "");
     assert_eq!(output.status.code(), Some(0));
     output.stdout
@@ -32,7 +20,7 @@ fn built(manifest: &[u8]) -> Vec<u8> {
 
 /// The manifest of an image, and what is told of it.
 fn shown(image: &[u8]) -> (String, String) {
-    let output = run(image, &["show", "-", "--manifest"]);
+    let output = run(image, ["show", "-", "--manifest"]);
     assert_eq!(output.status.code(), Some(0));
     (String::from_utf8(output.stdout).unwrap(), String::from_utf8(output.stderr).unwrap())
 }
@@ -137,17 +125,10 @@ fn directories_without_a_name_are_kept() {
     assert_eq!(shown(&image), ("dir   dir1: in /\ndir   tree1:\n".into(), lost.into()));
 }
 
-/// 17 links that share a body of 4,095 bytes.
 #[test]
 fn what_is_too_long_without_sharing_has_no_manifest() {
-    let mut image = b"TOC1\x12\0\x01\0\0\0\0\0\xff\x0f\0\0".to_vec();
-    image.extend((20 + 12 * 18 + 8 + 4_095_u32).to_le_bytes());
-    image.extend([1, 0, 0, 0, 0, 0, 0, 0, 0, 0, 0, 0]);
-    image.extend([3, 0, 0, 0, 0, 0, 0, 0, 0xff, 0x0f, 0, 0].repeat(17));
-    image.extend([0; 8]);
-    image.extend([b'b'; 4_095]);
     let why = "without sharing in its text it has over 65,536 bytes";
-    let message = failed(run(&image, &["show", "-", "--manifest"]));
+    let message = failed(run(&shared_image(), ["show", "-", "--manifest"]));
     assert_eq!(message, format!("cannot show standard input as a manifest: {why}"));
 }
 
@@ -167,7 +148,7 @@ fn a_line_that_is_none_is_told() {
             "line 1, column 1: /..: rule 5 broken by entry 0: its name is \"..\" (RULES 4.5c)",
         ),
     ] {
-        let message = failed(run(manifest.as_bytes(), &["build", "-"]));
+        let message = failed(run(manifest.as_bytes(), ["build", "-"]));
         assert_eq!(message, format!("cannot build standard input: {wrong}"));
     }
     let (bad, new) = (Named::file(b"dir lab\n"), Named::new());
@@ -194,7 +175,7 @@ fn the_page_is_true() {
         "dir /lab\ndir /a\nmount /lab /a as x\ndir d:\nmount d: /a in x",
     ];
     for manifest in told {
-        let message = failed(run(manifest.as_bytes(), &["build", "-"]));
+        let message = failed(run(manifest.as_bytes(), ["build", "-"]));
         let message = message.strip_prefix("cannot build standard input: ").unwrap();
         assert!(PAGE.contains(&format!("    {message}\n")), "{message}");
     }

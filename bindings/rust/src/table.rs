@@ -270,6 +270,25 @@ impl<'a> Table<'a> {
         let (_, mount) = self.mounts().nth(usize::try_from(number).ok()?)?;
         Some(mount)
     }
+
+    /// The directories that no entry names, tops of trees aside, each with its parent.
+    ///
+    /// ```
+    /// use ventolaire::{bench_tree, Table};
+    ///
+    /// assert_eq!(Table::new(bench_tree::IMAGE)?.nameless(), []);
+    /// # Ok::<(), ventolaire::Broken>(())
+    /// ```
+    #[cfg(feature = "std")]
+    pub fn nameless(&self) -> Vec<(u64, u64)> {
+        let mut named = vec![false; self.nodes().len()];
+        self.entries().for_each(|entry| named[entry.node as usize] = true);
+        let directories = self.nodes().filter_map(|(number, node)| match node {
+            Node::Directory { parent, .. } if parent != number => Some((number, parent)),
+            _ => None,
+        });
+        directories.filter(|(number, _)| !named[*number as usize]).collect()
+    }
 }
 
 /// Checks the image, as [`Table::new`] does.

@@ -26,12 +26,17 @@ pub fn answer_to<A: AsRef<OsStr>>(
     input: &[u8],
     arguments: impl IntoIterator<Item = A>,
 ) -> (i32, String) {
+    answered(run(input, arguments))
+}
+
+/// A run with bytes on standard input.
+pub fn run<A: AsRef<OsStr>>(input: &[u8], arguments: impl IntoIterator<Item = A>) -> Output {
     let mut program = program();
     let program = program.args(arguments).stdin(Stdio::piped());
     let mut child = program.stdout(Stdio::piped()).stderr(Stdio::piped()).spawn().unwrap();
     // Not all of it need be read.
     let _ = child.stdin.take().unwrap().write_all(input);
-    answered(child.wait_with_output().unwrap())
+    child.wait_with_output().unwrap()
 }
 
 pub fn answered(output: Output) -> (i32, String) {
@@ -117,5 +122,16 @@ pub fn image(names: &[&[u8]], body: &[u8]) -> Vec<u8> {
         at += name.len();
     }
     image.extend(text);
+    image
+}
+
+/// An image of 17 links that share a body of 4,095 bytes: one by one these take 69,615.
+pub fn shared_image() -> Vec<u8> {
+    let mut image = b"TOC1\x12\0\x01\0\0\0\0\0\xff\x0f\0\0".to_vec();
+    image.extend((20 + 12 * 18 + 8 + 4_095_u32).to_le_bytes());
+    image.extend([1, 0, 0, 0, 0, 0, 0, 0, 0, 0, 0, 0]);
+    image.extend([3, 0, 0, 0, 0, 0, 0, 0, 0xff, 0x0f, 0, 0].repeat(17));
+    image.extend([0; 8]);
+    image.extend([b'b'; 4_095]);
     image
 }

@@ -53,15 +53,8 @@ struct Described<'a> {
 impl<'a> Described<'a> {
     fn of(table: &'a Table<'a>) -> Self {
         let count = table.nodes().len();
-        let mut named = vec![false; count];
-        table.entries().for_each(|entry| named[entry.node as usize] = true);
         let mut nameless = vec![Vec::new(); count];
-        let directories = table.nodes().filter_map(|(number, node)| match node {
-            Node::Directory { parent, .. } if parent != number => Some((number, parent)),
-            _ => None,
-        });
-        let without = directories.filter(|(number, _)| !named[*number as usize]);
-        for ((number, parent), name) in without.zip(1..) {
+        for ((number, parent), name) in table.nameless().into_iter().zip(1..) {
             nameless[parent as usize].push((number, top("dir", name)));
         }
         let (manifest, magic) = (Manifest::new(), Vec::new());
