@@ -79,7 +79,9 @@ impl Numbers {
             mounts.into_iter().for_each(|at| self.show(layout, at));
         }
         // What is left hangs in a ring, which the builder refuses too.
-        on.into_iter().flatten().for_each(|at| self.show(layout, at));
+        let rest: Vec<usize> =
+            (1..layout.mounts.len()).filter(|at| self.mount_numbers[*at].is_none()).collect();
+        rest.into_iter().for_each(|at| self.show(layout, at));
     }
 
     fn show(&mut self, layout: &Layout, mount: usize) {

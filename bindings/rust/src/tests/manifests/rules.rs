@@ -174,8 +174,8 @@ fn roots_and_parents_are_refused() {
             (
                 "dir /p\ndir /q\nmount / /p in b as a\nmount / /q in a as b",
                 1,
-                "line 4, column 1: /q",
-                itself,
+                "line 3, column 1: /p",
+                "its parent is the mount on /q, not a lower one (RULES 4.6d)",
             ),
         ],
     );
