@@ -273,13 +273,13 @@ fn given(arguments: &Arguments) -> Result<Case, String> {
     arguments.known(&[], &[&numbers[..], &bytes, &["--sequence", "--fault"]].concat())?;
     let image = arguments.bytes("--image")?;
     let is_call = arguments.flag("--path") || arguments.flag("--how");
-    let number = |name| Ok::<u64, String>(arguments.number(name)?.unwrap_or(0));
     if arguments.flag("--name") {
         let others = ["--mount", "--mark", "--added", "--added-mark", "--sequence"];
         if is_call || others.iter().any(|name| arguments.flag(name)) {
             return Err("--name stands with --image and --node alone".into());
         }
-        let (node, name) = (number("--node")?, arguments.bytes("--name")?);
+        let node = arguments.number("--node")?.unwrap_or(0);
+        let name = arguments.bytes("--name")?;
         return Ok(Case::Lookup(Lookup { image, node, name }));
     }
     if let Some(steps) = arguments.text("--sequence") {
@@ -288,9 +288,14 @@ fn given(arguments: &Arguments) -> Result<Case, String> {
         }
         return Ok(Case::Sequence(Sequence { image, steps: data::sequence::read(steps)? }));
     }
-    if !is_call {
-        return Ok(Case::Table(image));
+    match is_call {
+        true => given_call(arguments, image),
+        false => Ok(Case::Table(image)),
     }
+}
+
+fn given_call(arguments: &Arguments, image: Vec<u8>) -> Result<Case, String> {
+    let number = |name| Ok::<u64, String>(arguments.number(name)?.unwrap_or(0));
     Ok(Case::Call(Call {
         image,
         mount: number("--mount")?,

@@ -63,9 +63,8 @@ impl Numbers {
     /// Numbers mounts, each behind its parent, and the trees that they show.
     fn shown(&mut self, layout: &Layout) {
         let mut on: Vec<Vec<usize>> = vec![Vec::new(); layout.mounts.len()];
-        for (at, mount) in layout.mounts.iter().enumerate().skip(1) {
-            on[mount.parent].push(at);
-        }
+        let mounts = layout.mounts.iter().enumerate().skip(1);
+        mounts.for_each(|(at, mount)| on[mount.parent].push(at));
         self.show(layout, 0);
         let mut next = 0;
         while let Some(&parent) = self.mounts.get(next) {

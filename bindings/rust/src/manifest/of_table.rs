@@ -64,21 +64,24 @@ impl<'a> Described<'a> {
     /// The trees from their tops, the one of mount 0 first.
     fn trees(&mut self) {
         let table = self.table;
-        let mut main = table.root().node;
-        while let Some(Node::Directory { parent, .. }) = table.node(main) {
-            match parent == main {
-                true => break,
-                false => main = parent,
-            }
-        }
+        let main = self.top_of(table.root().node);
         self.tree(main, Object::of(b"/"));
         let tops = table.nodes().filter_map(|(number, node)| match node {
             Node::Directory { parent, .. } if parent == number && number != main => Some(number),
             _ => None,
         });
-        for (number, name) in tops.zip(1..) {
-            self.tree(number, top("tree", name));
+        tops.zip(1..).for_each(|(number, name)| self.tree(number, top("tree", name)));
+    }
+
+    /// The top of the tree that a directory is in.
+    fn top_of(&self, mut directory: u64) -> u64 {
+        while let Some(Node::Directory { parent, .. }) = self.table.node(directory) {
+            if parent == directory {
+                break;
+            }
+            directory = parent;
         }
+        directory
     }
 
     /// All that has no name and is no directory.
@@ -148,14 +151,12 @@ impl<'a> Described<'a> {
     fn hang(&mut self) {
         let table = self.table;
         let mut seen = vec![false; table.mounts().len()];
-        for (_, mount) in table.mounts() {
-            seen[mount.parent as usize] = true;
-        }
-        for (_, node) in table.nodes() {
-            if let Node::MagicLink { target, .. } = node {
-                seen[target.mount as usize] = true;
-            }
-        }
+        table.mounts().for_each(|(_, mount)| seen[mount.parent as usize] = true);
+        let targets = table.nodes().filter_map(|(_, node)| match node {
+            Node::MagicLink { target, .. } => Some(target),
+            _ => None,
+        });
+        targets.for_each(|target| seen[target.mount as usize] = true);
         for (number, mount) in table.mounts() {
             let [root, point] = [mount.root, mount.point].map(|node| &self.objects[node as usize]);
             let (Some(object), Some(point)) = (root.clone(), point.clone()) else { continue };
