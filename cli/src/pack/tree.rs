@@ -183,6 +183,11 @@ impl Tree {
         let mut paths = vec![Vec::new(); self.nodes.len()];
         let mut waiting = self.tops();
         while let Some((node, path)) = waiting.pop() {
+            // A directory has two paths only if it was moved meanwhile: the builder refuses that.
+            if !paths[node].is_empty() {
+                manifest.hard_link(path, &paths[node]);
+                continue;
+            }
             match &self.nodes[node].kind {
                 Kind::Directory(entries) => {
                     manifest.directory(&path);
@@ -190,10 +195,6 @@ impl Tree {
                     let below = |name: &[u8]| [&path, &b"/"[..], name].concat();
                     let below = entries.iter().map(|(name, node)| (*node, below(name)));
                     waiting.extend(below.rev());
-                }
-                _ if !paths[node].is_empty() => {
-                    manifest.hard_link(path, &paths[node]);
-                    continue;
                 }
                 Kind::File => {
                     manifest.file(&path);
@@ -209,10 +210,9 @@ impl Tree {
 
     /// The tops of all trees with their paths, the main tree's last.
     fn tops(&self) -> Vec<(usize, Vec<u8>)> {
-        let mut main = 0;
-        while let Some(parent) = self.nodes[main].parent {
-            main = parent;
-        }
+        // Of directories that were moved meanwhile the parents may lead in a ring.
+        let above = std::iter::successors(Some(0), |at: &usize| self.nodes[*at].parent);
+        let main = above.take(self.nodes.len()).last().unwrap_or_default();
         let is_other = |at: &usize| {
             let node = &self.nodes[*at];
             matches!(node.kind, Kind::Directory(_)) && node.parent.is_none() && *at != main
@@ -260,6 +260,19 @@ mod tests {
             hard  /lab/run /again\ndir   tree1:\n\
             mount /lab /bind as mount1\nmount tree1: /disk as mount2\n";
         assert_eq!(text(&tree), lines);
+    }
+
+    /// As if each was moved into the other while it was read.
+    #[test]
+    fn directories_in_a_ring_are_refused() {
+        let mut tree = tree(&[]);
+        let one = tree.directory(0, b"one", Some(Identity(1, 2)));
+        let other = tree.directory(one, b"other", Some(Identity(1, 3)));
+        tree.directory(other, b"one", Some(Identity(1, 2)));
+        let error = tree.manifest().build().unwrap_err().to_string();
+        assert!(error.starts_with("/one/other/one: rule 5 broken"), "{error}");
+        tree.directory(other, b"top", Some(Identity(1, 1)));
+        assert!(tree.manifest().build().is_err());
     }
 
     /// First a part of a disk is met, then the whole of it.
