@@ -3,7 +3,8 @@
 use crate::json::Object;
 use crate::output::{Failure, Output};
 use crate::{escape, file};
-use std::ffi::OsString;
+use std::ffi::{OsStr, OsString};
+use std::fs;
 use std::io::{self, IsTerminal};
 use ventolaire::Table;
 
@@ -24,6 +25,9 @@ impl Destination {
             Destination::Output if io::stdout().is_terminal() => {
                 Err("an image is not printed to a terminal; give --output FILE, or a pipe".into())
             }
+            Destination::File { file, force: false } => {
+                file::is_free(file).map_err(|error| unwritten(file, &error))
+            }
             _ => Ok(()),
         }
     }
@@ -34,13 +38,7 @@ impl Destination {
             Destination::File { file, force: true } => (file, file::replace(file, image)),
             Destination::File { file, force: false } => (file, file::create(file, image)),
         };
-        written.map_err(|error| {
-            let hint = match error.kind() {
-                io::ErrorKind::AlreadyExists => "; --force replaces a file",
-                _ => "",
-            };
-            format!("cannot write {}: {error}{hint}", escape::name(file)).into()
-        })
+        written.map_err(|error| unwritten(file, &error).into())
     }
 
     /// Tells what was written to a file: what is in the table, and how long it is. In JSON with
@@ -73,4 +71,13 @@ impl Destination {
             }
         }
     }
+}
+
+fn unwritten(file: &OsStr, error: &io::Error) -> String {
+    let is_file = fs::symlink_metadata(file).is_ok_and(|there| there.is_file());
+    let hint = match error.kind() {
+        io::ErrorKind::AlreadyExists if is_file => "; --force replaces a file",
+        _ => "",
+    };
+    format!("cannot write {}: {error}{hint}", escape::name(file))
 }

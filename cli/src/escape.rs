@@ -10,5 +10,8 @@ pub fn text(bytes: &[u8]) -> String {
 
 /// A file's name, or an argument, to stand in a message.
 pub fn name(name: &OsStr) -> String {
-    text(name.as_encoded_bytes())
+    match name.is_empty() {
+        true => "''".into(),
+        false => text(name.as_encoded_bytes()),
+    }
 }

@@ -11,12 +11,18 @@ const EEXIST: i32 = 17;
 /// Makes a new file. One that is there already, of any kind, is left alone.
 pub fn create(file: &OsStr, bytes: &[u8]) -> io::Result<()> {
     // Asked first, so that nothing is written in vain.
-    if fs::symlink_metadata(file).is_ok() {
-        return Err(io::Error::from_raw_os_error(EEXIST));
-    }
+    is_free(file)?;
     let temporary = Temporary::of(file, bytes)?;
     // Unlike a rename it does not replace what has come there meanwhile.
     fs::hard_link(&temporary.0, file)
+}
+
+/// Whether nothing is there yet.
+pub fn is_free(file: &OsStr) -> io::Result<()> {
+    match fs::symlink_metadata(file) {
+        Ok(_) => Err(io::Error::from_raw_os_error(EEXIST)),
+        Err(_) => Ok(()),
+    }
 }
 
 /// Makes a file, or replaces one, which keeps its permissions. What is no regular file, a link or

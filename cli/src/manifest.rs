@@ -23,12 +23,11 @@ pub fn write(file: &OsStr, table: &Table, output: &mut Output) -> Result<(), Fai
 
 /// By what an image built of a table's manifest is another.
 fn changes(table: &Table, built: &[u8]) -> Vec<String> {
-    let Text { gaps, shared } = Text::of(table);
+    let Text { gaps, shared, moved } = Text::of(table);
     // The same records, the text in order.
     let ordered = table.parts().build();
     let ordered = ordered.as_deref().unwrap_or_default();
     let nameless = table.nameless().len();
-    let moved = ordered != table.image() && shared == 0 && gaps == 0;
     let counted = |count: usize, one: &str, many: &str| match count {
         1 => format!("1 {one}"),
         _ => format!("{count} {many}"),
@@ -55,6 +54,8 @@ struct Text {
     gaps: usize,
     /// Bytes that more names and bodies have than one, counted once for each more.
     shared: usize,
+    /// Whether some begin before the one that they come behind when they are written.
+    moved: bool,
 }
 
 impl Text {
@@ -65,14 +66,14 @@ impl Text {
             _ => None,
         });
         let mut used = vec![false; text.len()];
-        let mut all = 0;
+        let (mut all, mut last, mut moved) = (0, 0, false);
         for part in table.entries().map(|entry| entry.name).chain(bodies) {
             // All parts are of this text.
             let at = part.as_ptr().addr() - text.as_ptr().addr();
             used[at..at + part.len()].fill(true);
-            all += part.len();
+            (all, moved, last) = (all + part.len(), moved || at < last, at);
         }
         let used = used.into_iter().filter(|used| *used).count();
-        Text { gaps: text.len() - used, shared: all - used }
+        Text { gaps: text.len() - used, shared: all - used, moved }
     }
 }

@@ -11,22 +11,30 @@ use crate::escape;
 use crate::json::Object;
 use crate::output::{self, Failure, Output};
 use progress::Progress;
+use std::ffi::OsStr;
+use std::path::Path;
+use tree::Tree;
+use ventolaire::ManifestError;
 use walk::{Packed, Walk};
 
 pub fn run(asked: &Pack, output: &mut Output) -> Result<(), Failure> {
     asked.to.check()?;
     let packed = Walk::new(&asked.directory, asked.mounts, Progress::of_terminal()).run()?;
     let image = packed.tree.manifest().build();
-    let image = image
-        .map_err(|error| format!("cannot pack {}: {error}", escape::name(&asked.directory)))?;
+    let image = image.map_err(|error| refused(&asked.directory, &packed.tree, &error))?;
     asked.to.write(&image, output)?;
     output.refused = !packed.left.is_empty();
-    asked.to.tell(&image, asked.json.then(|| members(&packed)), output)?;
-    output.flush()?;
+    // First what must not be lost, should nobody read the rest.
     if !asked.json {
         tell(&packed);
     }
-    Ok(())
+    asked.to.tell(&image, asked.json.then(|| members(&packed)), output)
+}
+
+/// Why there is no image, by the path on the system that is to blame.
+fn refused(directory: &OsStr, tree: &Tree, error: &ManifestError) -> String {
+    let path = Path::new(directory).join(tree.real(&error.path));
+    format!("cannot pack {}: {}", escape::name(path.as_os_str()), error.problem)
 }
 
 /// What is not in the image as it is in the directory, in JSON.

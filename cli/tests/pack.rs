@@ -278,6 +278,22 @@ fn what_a_table_cannot_hold_is_told() {
     assert_eq!((json.text("file"), json.number("bytes")), (new.path(), whole.len()));
 }
 
+/// Nobody reads what is printed, and what is left out is told all the same.
+#[test]
+fn what_is_left_out_is_told_before_all_else() {
+    let (folder, new) = (Folder::new(), Folder::new());
+    socket(&folder, "socket");
+    let image = new.at("image");
+    let (reader, writer) = io::pipe().unwrap();
+    drop(reader);
+    let mut program = program();
+    let program = program.arg("pack").arg(&folder.0 .0).arg("-o").arg(&image).stdout(writer);
+    let output = program.output().unwrap();
+    let told = String::from_utf8(output.stderr).unwrap();
+    assert!(told.ends_with("/socket: a socket\nventolaire: 1 left out: 1 socket\n"), "{told}");
+    assert_eq!((output.status.code(), fs::read(&image).unwrap().len()), (Some(1), 40));
+}
+
 #[test]
 fn a_link_is_followed_to_the_directory_alone() {
     let folder = Folder::new();
@@ -300,7 +316,7 @@ fn a_link_is_followed_to_the_directory_alone() {
         let path = path.to_str().unwrap();
         assert_eq!(error(["pack", path]), format!("cannot pack {path}: {reason}"));
     }
-    assert_eq!(error(["pack", ""]), "cannot pack : No such file or directory (os error 2)");
+    assert_eq!(error(["pack", ""]), "cannot pack '': No such file or directory (os error 2)");
 }
 
 /// No image without what is in a directory that cannot be read.
@@ -340,12 +356,12 @@ fn a_file_is_left_alone_or_replaced() {
     assert_eq!(folder.names(), ["image", "lab"]);
 }
 
-/// The builder's word, with a path in the table, and no file.
+/// The builder's word, with the path on the system, and no file.
 fn is_refused(directory: &Path, reason: &str) {
     let new = Folder::new();
     let output = format!("--output={}", new.at("image").display());
     let message = error(["pack", directory.to_str().unwrap(), &output]);
-    assert_eq!(message, format!("cannot pack {}: {reason}", directory.display()));
+    assert_eq!(message, format!("cannot pack {}{reason}", directory.display()));
     assert_eq!(new.names(), Vec::<String>::new());
 }
 
@@ -363,7 +379,10 @@ fn limits_are_the_builder_s() {
     // Of more than 4,096 not all are read, and the same is refused.
     (2_620..5_000).for_each(|number| folder.file(format!("d/{number:05}")));
     let long = "the image would have 81986 bytes, over 65,536 (RULES 4.1)";
-    is_refused(&folder.0 .0, &format!("/d/02619: rule 1 broken: {long}; reading stopped there"));
+    is_refused(
+        &folder.0 .0,
+        &format!("/d/02619: rule 1 broken: {long}, with the rest not yet read"),
+    );
 }
 
 /// Many names of one file: entries without nodes.

@@ -180,7 +180,7 @@ fn a_line_that_is_no_call_ends_the_script() {
         ("mark lab", "mark wants a number, not lab"),
         ("mark +1", "mark wants a number, not +1"),
         ("mark 0\r", "mark wants a number, not 0\\r"),
-        ("mark ''", "mark wants a number, not "),
+        ("mark ''", "mark wants a number, not ''"),
         ("open 0 'lab", "a quote (') is not closed"),
         ("open 0 \\lab", "\\l is no escape"),
     ] {

@@ -85,7 +85,7 @@ fn wrong_usage_of_lookup_is_told_in_one_line() {
         (&["lookup", "a", "+2", "tare"], "lookup wants a node's number, not +2"),
         (&["lookup", "a", "0x2", "tare"], "lookup wants a node's number, not 0x2"),
         (&["lookup", "a", "2 ", "tare"], "lookup wants a node's number, not 2 "),
-        (&["lookup", "a", "", "tare"], "lookup wants a node's number, not "),
+        (&["lookup", "a", "", "tare"], "lookup wants a node's number, not ''"),
         (&["lookup", "a", "\u{661}", "tare"], "lookup wants a node's number, not \u{661}"),
         (&["lookup", "a", "-1", "tare"], "there is no option -1"),
         (&["lookup", "a", "--", "-1", "tare"], "lookup wants a node's number, not -1"),

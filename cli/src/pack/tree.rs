@@ -1,8 +1,11 @@
 //! What was read, put together: a node for each object, whatever names and mounts show it.
 
 use std::collections::{BTreeMap, HashMap};
+use std::ffi::OsStr;
 use std::fs::Metadata;
+use std::os::unix::ffi::OsStrExt;
 use std::os::unix::fs::MetadataExt;
+use std::path::{Path, PathBuf};
 use ventolaire::{Manifest, ManifestError, Parts, Problem};
 
 /// By what an object is known again: its device and its inode.
@@ -33,6 +36,8 @@ struct Mount {
     point: usize,
     /// None as long as it was not looked into.
     root: Option<usize>,
+    /// From the directory that is packed.
+    path: PathBuf,
 }
 
 pub struct Tree {
@@ -56,7 +61,8 @@ impl Tree {
             asked_at: Parts::IMAGE_MAX / 16,
         };
         let root = tree.add(Kind::Directory(BTreeMap::new()), None);
-        tree.mounts.push(Mount { parent: 0, point: root, root: Some(root) });
+        let path = PathBuf::new();
+        tree.mounts.push(Mount { parent: 0, point: root, root: Some(root), path });
         tree
     }
 
@@ -123,11 +129,11 @@ impl Tree {
             Some(point) => point,
             None => self.directory(directory, name, None),
         };
-        self.mounts.push(Mount { parent, point, root: None });
+        self.mounts.push(Mount { parent, point, root: None, path: PathBuf::new() });
     }
 
     /// The directory that a mount shows: one that is known, or the top of a tree of its own.
-    pub fn show(&mut self, mount: usize, identity: Identity) -> usize {
+    pub fn show(&mut self, mount: usize, identity: Identity, path: &Path) -> usize {
         let root = match (mount, self.known.get(&identity)) {
             (0, _) => 0,
             (_, Some(root)) => *root,
@@ -135,7 +141,21 @@ impl Tree {
         };
         self.know(Some(identity), root);
         self.mounts[mount].root = Some(root);
+        self.mounts[mount].path = path.into();
         root
+    }
+
+    /// A path of the manifest as it is on the system, from the directory that is packed: that of
+    /// a mount that shows its tree, with the names behind it.
+    pub fn real(&self, path: &[u8]) -> PathBuf {
+        let slash = path.iter().position(|byte| *byte == b'/').unwrap_or(path.len());
+        let (tree, names) = path.split_at(slash);
+        let tree = if tree.is_empty() { b"/" } else { tree };
+        let top = self.tops().into_iter().find(|(_, path)| path == tree).map(|(top, _)| top);
+        let shows = |mount: &&Mount| mount.root == top;
+        let shown = self.mounts.iter().find(shows).map(|mount| mount.path.clone());
+        let names = names.strip_prefix(b"/").unwrap_or(names);
+        shown.unwrap_or_default().join(OsStr::from_bytes(names))
     }
 
     fn know(&mut self, identity: Option<Identity>, node: usize) {
@@ -238,7 +258,7 @@ mod tests {
     /// A tree with mounts on these names of its top, not looked into yet.
     fn tree(points: &[&[u8]]) -> Tree {
         let mut tree = Tree::new();
-        tree.show(0, Identity(1, 1));
+        tree.show(0, Identity(1, 1), Path::new(""));
         points.iter().for_each(|name| tree.mount(0, 0, name));
         tree
     }
@@ -254,8 +274,8 @@ mod tests {
         let lab = tree.directory(0, b"lab", Some(Identity(1, 2)));
         tree.leaf(lab, b"run", Identity(1, 3), Kind::File);
         tree.leaf(0, b"again", Identity(1, 3), Kind::File);
-        assert_eq!(tree.show(1, Identity(1, 2)), lab);
-        tree.show(2, Identity(2, 1));
+        assert_eq!(tree.show(1, Identity(1, 2), Path::new("m1")), lab);
+        tree.show(2, Identity(2, 1), Path::new("m2"));
         let lines = "dir   /\nfile  /again\ndir   /bind\ndir   /disk\ndir   /lab\n\
             hard  /lab/run /again\ndir   tree1:\n\
             mount /lab /bind as mount1\nmount tree1: /disk as mount2\n";
@@ -279,10 +299,12 @@ mod tests {
     #[test]
     fn a_top_may_turn_out_to_be_in_a_directory() {
         let mut tree = tree(&[b"part", b"whole"]);
-        let part = tree.show(1, Identity(2, 5));
+        let part = tree.show(1, Identity(2, 5), Path::new("m1"));
         tree.leaf(part, b"run", Identity(2, 6), Kind::File);
-        let whole = tree.show(2, Identity(2, 1));
+        let whole = tree.show(2, Identity(2, 1), Path::new("m2"));
         assert_eq!(tree.directory(whole, b"sub", Some(Identity(2, 5))), part);
+        assert_eq!(tree.real(b"tree1:/sub/run"), Path::new("m2/sub/run"));
+        assert_eq!((tree.real(b"/part"), tree.real(b"/")), ("part".into(), "".into()));
         let lines = "dir   /\ndir   /part\ndir   /whole\n\
             dir   tree1:\ndir   tree1:/sub\nfile  tree1:/sub/run\n\
             mount tree1:/sub /part as mount1\nmount tree1: /whole as mount2\n";
@@ -293,7 +315,7 @@ mod tests {
     #[test]
     fn the_main_top_too() {
         let mut tree = tree(&[b"up"]);
-        let above = tree.show(1, Identity(1, 9));
+        let above = tree.show(1, Identity(1, 9), Path::new("m1"));
         assert_eq!(tree.directory(above, b"lab", Some(Identity(1, 1))), 0);
         let lines = "dir   /\ndir   /lab\ndir   /lab/up\nroot  /lab\nmount / /lab/up as mount1\n";
         assert_eq!(text(&tree), lines);
@@ -303,11 +325,11 @@ mod tests {
     #[test]
     fn what_a_mount_hides_another_shows() {
         let mut tree = tree(&[b"point", b"of_point", b"view"]);
-        let hidden = tree.show(2, Identity(1, 7));
+        let hidden = tree.show(2, Identity(1, 7), Path::new("m2"));
         tree.leaf(hidden, b"run", Identity(1, 8), Kind::Link(b"a".to_vec()));
-        assert_eq!(tree.show(3, Identity(1, 1)), 0);
+        assert_eq!(tree.show(3, Identity(1, 1), Path::new("m3")), 0);
         assert_eq!(tree.directory(0, b"point", Some(Identity(1, 7))), hidden);
-        tree.show(1, Identity(3, 1));
+        tree.show(1, Identity(3, 1), Path::new("m1"));
         let lines = "dir   /\ndir   /of_point\ndir   /point\nlink  /point/run a\ndir   /view\n\
             dir   tree1:\nmount tree1: /point as mount1\n\
             mount /point /of_point as mount2\nmount / /view as mount3\n";

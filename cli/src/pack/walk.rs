@@ -3,6 +3,7 @@
 use super::left::{Left, Reason};
 use super::mounts::{Mount, Mounts};
 use super::progress::Progress;
+use super::refused;
 use super::tree::{Identity, Kind, Tree};
 use crate::escape;
 use std::collections::{HashMap, HashSet};
@@ -109,7 +110,7 @@ impl<'a> Walk<'a> {
         let Found { mount, path } = &self.found[number];
         let (mount, path) = (*mount, path.clone());
         let data = self.data(&path)?;
-        let node = self.packed.tree.show(number, Identity::from(&data));
+        let node = self.packed.tree.show(number, Identity::from(&data), &path);
         self.open(Folder { node, path, mount, number }, &data)?;
         while let Some((folder, name)) = self.waiting.pop() {
             self.meet(&folder, &name)?;
@@ -138,7 +139,7 @@ impl<'a> Walk<'a> {
 
     fn meet(&mut self, folder: &Folder, name: &OsStr) -> Result<(), String> {
         let path = folder.path.join(name);
-        self.progress.read(&[b"/", path.as_os_str().as_bytes()].concat());
+        self.progress.read(self.directory.join(&path).as_os_str().as_bytes());
         let data = self.data(&path)?;
         let mount = self.mounts.entered(folder.mount, &self.real.join(&path), data.dev());
         let met = Met { folder, name, path, data, mount };
@@ -152,8 +153,8 @@ impl<'a> Walk<'a> {
         match self.packed.tree.is_full() {
             None => Ok(()),
             Some(error) => {
-                let directory = escape::name(self.directory.as_os_str());
-                Err(format!("cannot pack {directory}: {error}; reading stopped there"))
+                let why = refused(self.directory.as_os_str(), &self.packed.tree, &error);
+                Err(format!("{why}, with the rest not yet read"))
             }
         }
     }

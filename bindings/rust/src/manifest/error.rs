@@ -20,6 +20,9 @@ use std::fmt;
 ///     error.to_string(),
 ///     "line 2, column 3: /lab/..: rule 5 broken by entry 1: its name is \"..\" (RULES 4.5c)"
 /// );
+///
+/// let error = std::io::Error::from(error);
+/// assert_eq!(error.kind(), std::io::ErrorKind::InvalidData);
 /// # Ok::<(), ventolaire::ManifestError>(())
 /// ```
 #[derive(Clone, Debug, PartialEq, Eq)]
@@ -157,3 +160,10 @@ impl fmt::Display for Problem {
 }
 
 impl Error for ManifestError {}
+
+/// With the whole error in it, of the kind `InvalidData`.
+impl From<ManifestError> for std::io::Error {
+    fn from(error: ManifestError) -> Self {
+        std::io::Error::new(std::io::ErrorKind::InvalidData, error)
+    }
+}

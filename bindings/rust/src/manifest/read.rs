@@ -30,7 +30,7 @@ impl Manifest {
         let mut manifest = Manifest::new();
         for (line, number) in text.as_ref().split(|byte| *byte == b'\n').zip(1..) {
             let line = line.strip_suffix(b"\r").unwrap_or(line);
-            let mut reader = Reader { line, number, words: Words::of(line) };
+            let mut reader = Reader { line, number, words: Words::of(line), end: END };
             let position = reader.position(reader.words.clone().at());
             if let Some(item) = reader.item()? {
                 manifest.add(Some(position), item);
@@ -49,12 +49,18 @@ impl FromStr for Manifest {
 }
 
 const LINE: &str = "dir, file, link, magic, hard, mount or root";
+const END: &str = "the line's end";
+
+/// The most bytes of a word that are told.
+const TOLD: usize = 60;
 
 /// A line, read from left to right.
 struct Reader<'a> {
     line: &'a [u8],
     number: u64,
     words: Words<'a>,
+    /// What may stand behind what was read.
+    end: &'static str,
 }
 
 impl Reader<'_> {
@@ -63,9 +69,9 @@ impl Reader<'_> {
         let at = self.words.at();
         let Some(word) = self.word(LINE)? else { return Ok(None) };
         let item = match &word[..] {
-            b"dir" => self.node(|own| Ok(Kind::Directory(own.behind("in", Self::object)?)))?,
-            b"file" => self.node(|_| Ok(Kind::File))?,
-            b"link" => self.node(|own| own.wanted("a link's body").map(Kind::Link))?,
+            b"dir" => self.node(Self::directory)?,
+            b"file" => self.node(|_, _| Ok(Kind::File))?,
+            b"link" => self.node(|own, _| own.wanted("a link's body").map(Kind::Link))?,
             b"magic" => self.node(Self::magic)?,
             b"hard" => Item::Hard { object: self.object()?, other: self.object()? },
             b"mount" => self.mount()?,
@@ -73,27 +79,38 @@ impl Reader<'_> {
             _ => return Err(self.unexpected(at, LINE, &word)),
         };
         let at = self.words.at();
-        match self.word("the line's end")? {
-            Some(word) => Err(self.unexpected(at, "the line's end", &word)),
+        match self.word(self.end)? {
+            Some(word) => Err(self.unexpected(at, self.end, &word)),
             None => Ok(Some(item)),
         }
     }
 
     fn node(
         &mut self,
-        kind: impl FnOnce(&mut Self) -> Result<Kind, ManifestError>,
+        kind: impl FnOnce(&mut Self, &Object) -> Result<Kind, ManifestError>,
     ) -> Result<Item, ManifestError> {
-        Ok(Item::Node { object: self.object()?, kind: kind(self)? })
+        let object = self.object()?;
+        let kind = kind(self, &object)?;
+        Ok(Item::Node { object, kind })
     }
 
-    fn magic(&mut self) -> Result<Kind, ManifestError> {
-        Ok(Kind::Magic { target: self.object()?, mount: self.behind("in", Self::name)? })
+    fn directory(&mut self, object: &Object) -> Result<Kind, ManifestError> {
+        // What has a name has a parent by it.
+        let ends = if object.named().is_none() { "in or the line's end" } else { END };
+        self.behind("in", ends, Self::object).map(Kind::Directory)
+    }
+
+    fn magic(&mut self, _: &Object) -> Result<Kind, ManifestError> {
+        let target = self.object()?;
+        let mount = self.behind("in", "in or the line's end", Self::name)?;
+        Ok(Kind::Magic { target, mount })
     }
 
     fn mount(&mut self) -> Result<Item, ManifestError> {
         let (root, point) = (self.object()?, self.object()?);
-        let parent = self.behind("in", Self::name)?;
-        Ok(Item::Mount { root, point, parent, name: self.behind("as", Self::name)? })
+        let parent = self.behind("in", "in, as or the line's end", Self::name)?;
+        let ends = if parent.is_some() { "as or the line's end" } else { self.end };
+        Ok(Item::Mount { root, point, parent, name: self.behind("as", ends, Self::name)? })
     }
 
     fn object(&mut self) -> Result<Object, ManifestError> {
@@ -115,26 +132,34 @@ impl Reader<'_> {
         name.map(String::from).ok_or_else(|| self.unexpected(at, NAME, &word))
     }
 
-    /// What stands behind a word, if that is the next.
+    /// What stands behind a word, if that is the next. If not, this may be.
     fn behind<T>(
         &mut self,
         word: &str,
+        else_end: &'static str,
         read: impl FnOnce(&mut Self) -> Result<T, ManifestError>,
     ) -> Result<Option<T>, ManifestError> {
         let mut ahead = self.words.clone();
         match ahead.next() {
             Some(Ok(next)) if next.bytes == word.as_bytes() => {
-                self.words = ahead;
+                (self.words, self.end) = (ahead, END);
                 read(self).map(Some)
             }
-            _ => Ok(None),
+            _ => {
+                self.end = else_end;
+                Ok(None)
+            }
         }
     }
 
     fn wanted(&mut self, expected: &'static str) -> Result<Vec<u8>, ManifestError> {
         let at = self.words.at();
+        let found = match self.words.rest() {
+            [b'#', ..] => "found a comment",
+            _ => "found the line's end",
+        };
         let word = self.word(expected)?;
-        word.ok_or_else(|| self.error(at, expected, "found the line's end".into()))
+        word.ok_or_else(|| self.error(at, expected, found.into()))
     }
 
     /// The next word, if there is one before a comment and the line's end.
@@ -152,7 +177,11 @@ impl Reader<'_> {
     }
 
     fn unexpected(&self, at: usize, expected: &'static str, word: &[u8]) -> ManifestError {
-        self.error(at, expected, format!("found {}", Quoted(word)))
+        let found = match word.get(..TOLD) {
+            Some(begin) if word.len() > TOLD => format!("found {}..", Quoted(begin)),
+            _ => format!("found {}", Quoted(word)),
+        };
+        self.error(at, expected, found)
     }
 
     fn error(&self, at: usize, expected: &'static str, found: String) -> ManifestError {

@@ -148,9 +148,12 @@ impl Refused<'_> {
         }
     }
 
-    /// The node with which the image has more bytes than it may.
+    /// The node with which the image has more bytes than it may, or the mount: these come first.
     fn past_bytes(&self) -> Option<At<'_>> {
         let mut bytes = 20 + 8 * self.layout.mounts.len() as u64;
+        if bytes > BYTES {
+            return self.at(Record::Mount((BYTES - 20) / 8));
+        }
         let past = self.numbers.nodes.iter().zip(self.sizes()).find(|(_, size)| {
             bytes += size;
             bytes > BYTES

@@ -5,7 +5,7 @@ use crate::text::Quoted;
 use std::fmt;
 
 /// A line for each object, in the order in which they were added. Read again it is the same
-/// manifest.
+/// manifest; only what is no path, and so is refused by `build`, is refused there already.
 ///
 /// ```
 /// let mut manifest = ventolaire::Manifest::new();

@@ -8,6 +8,9 @@ const PATH: &str = "a path, /.. or TREE:/..";
 const NAME: &str = "a mount's name, of letters, digits, -, _ and .";
 const BODY: &str = "a link's body";
 const END: &str = "the line's end";
+const IN: &str = "in or the line's end";
+const AS: &str = "as or the line's end";
+const IN_AS: &str = "in, as or the line's end";
 
 /// A text's line and column, what was expected there, and the rest of the message.
 type Row<'a> = (&'a str, (u64, u64), &'static str, &'a str);
@@ -35,6 +38,8 @@ fn unknown_words_are_told() {
         ("\u{feff}dir /x", (1, 1), LINE, "found \\ufeffdir"),
         ("\u{a0}dir /x", (1, 1), LINE, "found \u{a0}dir"),
         ("'#'", (1, 1), LINE, "found '#'"),
+        (&"x".repeat(60), (1, 1), LINE, &format!("found {}", "x".repeat(60))),
+        (&"x".repeat(61), (1, 1), LINE, &format!("found {}..", "x".repeat(60))),
     ]);
 }
 
@@ -43,7 +48,7 @@ fn missing_words_are_told() {
     expect(&[
         ("dir", (1, 4), PATH, "found the line's end"),
         ("file \t", (1, 7), PATH, "found the line's end"),
-        ("link # x", (1, 6), PATH, "found the line's end"),
+        ("link # x", (1, 6), PATH, "found a comment"),
         ("magic /fd", (1, 10), PATH, "found the line's end"),
         ("hard /a", (1, 8), PATH, "found the line's end"),
         ("mount", (1, 6), PATH, "found the line's end"),
@@ -51,11 +56,11 @@ fn missing_words_are_told() {
         ("root", (1, 5), PATH, "found the line's end"),
         ("dir a: in", (1, 10), PATH, "found the line's end"),
         ("link /x", (1, 8), BODY, "found the line's end"),
-        ("link /x # body", (1, 9), BODY, "found the line's end"),
+        ("link /x # body", (1, 9), BODY, "found a comment"),
         ("mount / /x in", (1, 14), NAME, "found the line's end"),
         ("mount / /x as", (1, 14), NAME, "found the line's end"),
         ("mount / /x in a as", (1, 19), NAME, "found the line's end"),
-        ("magic /x / in #", (1, 15), NAME, "found the line's end"),
+        ("magic /x / in #", (1, 15), NAME, "found a comment"),
     ]);
 }
 
@@ -69,9 +74,11 @@ fn surplus_words_are_told() {
         ("link /x a b", (1, 11), END, "found b"),
         ("hard /a /b c", (1, 12), END, "found c"),
         ("hard /a /b in c", (1, 12), END, "found in"),
-        ("magic /a /b c", (1, 13), END, "found c"),
-        ("magic /a /b as c", (1, 13), END, "found as"),
-        ("mount /a /b c", (1, 13), END, "found c"),
+        ("magic /a /b c", (1, 13), IN, "found c"),
+        ("magic /a /b as c", (1, 13), IN, "found as"),
+        ("mount /a /b c", (1, 13), IN_AS, "found c"),
+        ("mount /a /b in x c", (1, 18), AS, "found c"),
+        ("dir x: on /", (1, 8), IN, "found on"),
         ("mount /a /b as x in y", (1, 18), END, "found in"),
         ("mount /a /b in x as y z", (1, 23), END, "found z"),
         ("root /x '#'", (1, 9), END, "found '#'"),
@@ -124,7 +131,7 @@ fn what_is_no_word_is_told() {
         ("link /x a\\u12", (1, 10), BODY, "but \\u12 is no escape"),
         ("link /x '\\ud800'", (1, 10), BODY, "but \\ud800 is no escape"),
         ("mount / /x in \\xg0", (1, 15), NAME, "but \\xg0 is no escape"),
-        ("mount / /x \\q", (1, 12), END, "but \\q is no escape"),
+        ("mount / /x \\q", (1, 12), IN_AS, "but \\q is no escape"),
         ("dir /x 'in /y", (1, 8), END, open),
         ("file '/x", (1, 6), PATH, open),
         ("link /x a'b", (1, 10), BODY, open),

@@ -34,6 +34,15 @@ fn expect_all(rule: u64, rows: &[(&str, u64, &str, &str)]) {
     }
 }
 
+/// 20 + 2 * 12 + 9,001 * 8 + 8 + 1, and with mount 8,189 the mounts alone have 65,540.
+#[test]
+fn mounts_alone_may_be_too_long() {
+    let text = format!("dir /p\n{}", "mount / /p\n".repeat(9_000));
+    let words = "line 8190, column 1: /p: rule 1 broken: the image would have 72061 bytes, over \
+                 65,536 (RULES 4.1)";
+    expect(&text, (1, 0), words);
+}
+
 #[test]
 fn images_too_long_are_refused() {
     // 20 + 2 * 12 + 8 + 8 + 65,540: not cut to a name of four bytes.
