@@ -168,7 +168,7 @@ fn comments_and_ends_of_lines_are_left_out() {
     let image = manifest.build().unwrap();
     let text = "# c 'open\n\n  # \\q\ndir /a#b # the directory 'a\nlink /l '#x' #\n\
                 link /m \\#y #\nfile \"/n#\"\t#!\nfile /o\rp";
-    assert_eq!(build(&text), image);
+    assert_eq!(build(text), image);
     assert_eq!(build(text.replace('\n', "\r\n")), image);
     assert_eq!(build(text.to_string() + "\r\n \t\r\n\n\n#"), image);
     assert_eq!(Manifest::new().build().unwrap(), build(""));
