@@ -1,5 +1,6 @@
 //! Where an image is written to, and what is told of it.
 
+use crate::counted::counted;
 use crate::json::Object;
 use crate::output::{Failure, Output};
 use crate::{escape, file};
@@ -61,11 +62,9 @@ impl Destination {
                 output.line(object.with("mounts", mounts).with("bytes", bytes).and(more))
             }
             None => {
-                let counted = [(nodes, "node", "nodes"), (entries, "entry", "entries")].map(
-                    |(count, one, many)| format!("{count} {}", if count == 1 { one } else { many }),
-                );
-                let mounts = format!("{mounts} mount{}", if mounts == 1 { "" } else { "s" });
-                let [nodes, entries] = counted;
+                let nodes = counted(nodes, "node", "nodes");
+                let entries = counted(entries, "entry", "entries");
+                let mounts = counted(mounts, "mount", "mounts");
                 let file = escape::name(file);
                 output.line(format_args!("{file}: {nodes}, {entries}, {mounts}; {bytes} bytes"))
             }

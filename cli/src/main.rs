@@ -6,6 +6,7 @@ mod asked;
 mod build;
 mod call;
 mod canonical;
+mod counted;
 mod demo;
 mod destination;
 mod dot;

@@ -1,5 +1,6 @@
 //! A table as a manifest, and what its image has that a manifest doesn't say.
 
+use crate::counted::counted;
 use crate::output::{self, Failure, Output};
 use crate::{explain, input};
 use std::ffi::OsStr;
@@ -28,10 +29,6 @@ fn changes(table: &Table, built: &[u8]) -> Vec<String> {
     let ordered = table.parts().build();
     let ordered = ordered.as_deref().unwrap_or_default();
     let nameless = table.nameless().len();
-    let counted = |count: usize, one: &str, many: &str| match count {
-        1 => format!("1 {one}"),
-        _ => format!("{count} {many}"),
-    };
     let rows = [
         (
             shared > 0,

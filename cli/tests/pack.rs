@@ -457,8 +457,9 @@ const MOUNTS: &str = r#"
 /// The option by which `unshare` gives mounts of one's own, if it may.
 fn unshare(folder: &Folder) -> Option<&'static str> {
     ["-m", "-rm"].into_iter().find(|option| {
-        let mount = [*option, "mount", "-t", "tmpfs", "none", folder.path()];
-        Command::new("unshare").args(mount).output().is_ok_and(|done| done.status.success())
+        let mount = r#"mount -t tmpfs none "$0" && mkdir "$0/x" && mount --bind "$0" "$0/x""#;
+        let words = [*option, "sh", "-c", mount, folder.path()];
+        Command::new("unshare").args(words).output().is_ok_and(|done| done.status.success())
     })
 }
 

@@ -1,5 +1,6 @@
 //! What no table can hold, and is left out.
 
+use crate::counted::counted;
 use crate::escape;
 use crate::json::Object;
 use std::fs::FileType;
@@ -87,14 +88,14 @@ impl Left {
     }
 
     fn sum(&self) -> Option<String> {
-        let counted = Reason::ALL.into_iter().filter_map(|reason| {
+        let parts = Reason::ALL.into_iter().filter_map(|reason| {
             let count = self.0.iter().filter(|(_, other)| *other == reason).count();
             let [one, many] = reason.nouns();
-            (count > 0).then(|| format!("{count} {}", if count == 1 { one } else { many }))
+            (count > 0).then(|| counted(count, one, many))
         });
-        let counted: Vec<String> = counted.collect();
+        let parts: Vec<String> = parts.collect();
         let all = self.0.len();
-        (all > 0).then(|| format!("{all} left out: {}", counted.join(", ")))
+        (all > 0).then(|| format!("{all} left out: {}", parts.join(", ")))
     }
 
     pub fn json(&self) -> Object {

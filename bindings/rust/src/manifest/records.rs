@@ -97,11 +97,12 @@ struct Refused<'a> {
 
 impl Refused<'_> {
     fn error(&self) -> ManifestError {
-        let cause = self.parts.cause(self.broken);
-        let reason = match self.broken.rule {
-            1 => format!("the image would have {} bytes, over 65,536", self.bytes()),
-            _ => cause.named(|record| self.name(record)),
+        let cause = match (self.broken.rule, self.parts.cause(self.broken)) {
+            // Fields may have no room for the lengths that make an image too long.
+            (1, cause) => cause.counting(self.bytes()),
+            (_, cause) => cause,
         };
+        let reason = cause.named(|record| self.name(record));
         let (broken, record, clause) = (self.broken, cause.record, cause.clause);
         let at = match record {
             Some(record) => self.at(record),
@@ -161,7 +162,7 @@ impl Refused<'_> {
         past.map(|(at, _)| self.layout.nodes[*at].at)
     }
 
-    /// How long the image would be. Fields may have no room for the lengths that make it so.
+    /// How long the image would be.
     fn bytes(&self) -> u64 {
         20 + 8 * self.layout.mounts.len() as u64 + self.sizes().iter().sum::<u64>()
     }

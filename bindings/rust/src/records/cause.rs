@@ -47,6 +47,12 @@ impl Cause {
         Cause { clause, record, words, numbers }
     }
 
+    /// The same with another number in its words, which have one.
+    #[cfg(feature = "std")]
+    pub(crate) fn counting(self, number: u64) -> Self {
+        Cause { numbers: [number, 0, 0], ..self }
+    }
+
     /// The words, with a name in place of "node 3", "directory 3" or "mount 1" wherever one is
     /// known.
     #[cfg(feature = "std")]
