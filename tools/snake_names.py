@@ -42,9 +42,9 @@ def main():
     fields = dashed()
     lemmas = {w for w in LEMMAS if any(re.search(rf"^ *(?:pub )?{w} :", open(p, encoding="utf-8").read(), re.M) for p in files() if "/proofs/" in p)}
 
-    def turned(m):
+    def turned(m, proofs):
         word = m.group(0)
-        if word in lemmas:
+        if proofs and word in lemmas:
             return LEMMAS[word]
         if word in fields:
             return word.replace("-", "_")
@@ -55,7 +55,8 @@ def main():
     for path in files():
         with open(path, encoding="utf-8") as f:
             text = f.read()
-        new = TOKEN.sub(turned, text).replace("′", "'")
+        proofs = "/proofs/" in path
+        new = TOKEN.sub(lambda m: turned(m, proofs), text).replace("′", "'")
         if new != text:
             with open(path, "w", encoding="utf-8") as f:
                 f.write(new)

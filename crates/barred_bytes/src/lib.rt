@@ -1,4 +1,6 @@
 // Bytes that names and bodies may not hold: whether a string that is read holds one.
+#![tactic(auto)]
+
 ghost use Rattle.std.specs.Prelude.{true, false, ◌≡◌, ◌+◌, ◌*◌, ◌≤◌, length};
 ghost use Rattle.model.specs.Bytes.{part, contains};
 ghost use Rattle.barred_bytes.specs.Barred.{holds_barred, barred};

@@ -1,4 +1,6 @@
 // Writes the image of the tree that four lent parts stand for, once every rule has judged it: any parts of any lengths to an image, or to a refusal.
+#![tactic(auto)]
+
 ghost use Rattle.std.specs.Prelude.{List, [], ◌≡◌, ℕ, ◌*◌, ◌^◌, ◌≤◌, length};
 ghost use Rattle.model.specs.Tree.{name_length_in};
 ghost use Rattle.model.specs.TableCheck.{sum_below};

@@ -1,5 +1,7 @@
 // Strings compared by blocks of four or eight bytes, each a single load, and long ones by 32 bytes at a time before that. What decides
 // is the first block that differs, or the last one, which may overlap the one before it so that no bytes are left over.
+#![tactic(auto)]
+
 ghost use Rattle.std.specs.Prelude.{◌≡◌, ℕ, ◌+◌, ◌^◌, ◌≤◌, ◌<◌, length};
 ghost use Rattle.byte_blocks.specs.Blocks.{big_endian, reversed, Deciding, differ, first_differing};
 

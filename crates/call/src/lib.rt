@@ -1,4 +1,6 @@
 // What refuses a call before its walk, once its table is accepted: open_how, path and handle, in the order of RULES 7.1.
+#![tactic(auto)]
+
 pub mod handle;
 pub mod path;
 
@@ -18,7 +20,7 @@ use parts::records::Counts;
 use text::is_absolute;
 
 // What the checks before the walk say of a call: it walks by the fields of its open_how, or is refused.
-#[derive(Drop)]
+#[derive(Clone, Copy)]
 pub enum CallRead {
     Walks(How),
     Refused(Refusal),

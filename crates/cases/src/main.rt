@@ -8,6 +8,8 @@
 // directory; seven u32, the expected numbers: two for a check and a start, six for a call, seven for a descriptor call, four for a lookup
 // and a build, then zeros; u32 offset and u32 length of a build's text, and of the image that it is to write, empty where it is refused.
 // A start's descriptors are those of the records after it. A build whose buffer is not left as it should be answers 1 as the fifth number.
+#![tactic(auto)]
+
 ghost use Rattle.std.specs.Prelude.{true, ◌≡◌, ◌+◌, ◌*◌, ◌≤◌, length};
 
 use fields::{u32_at, u64_at};

@@ -1,11 +1,13 @@
 // What a check before the walk answers.
+#![tactic(auto)]
+
 ghost use Rattle.std.specs.Prelude.{◌≡◌};
 ghost use Rattle.model.specs.Answers.{refusal, not_walked};
 
 use model::{Errno, NO_DETAIL, Progress, Refusal};
 
 // One check's answer.
-#[derive(Drop)]
+#[derive(Clone, Copy)]
 pub enum Check {
     Passes,
     Refused(Refusal),

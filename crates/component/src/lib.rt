@@ -1,4 +1,6 @@
 // One component of a walk, with no list of open texts: where it leads from a place, under the restrictions that are set.
+#![tactic(auto)]
+
 mod links;
 mod moves;
 
@@ -22,7 +24,7 @@ use strings::dots;
 
 // Where one component leads: the walk stops with an error, goes on from a place, goes on from the target of a magic link, or reads
 // the body of the symbolic link whose node is given, from a place.
-#[derive(Drop)]
+#[derive(Clone, Copy)]
 pub enum Outcome {
     Stop(Errno),
     Go(Place),

@@ -16,7 +16,7 @@ use parts::search::Search;
 use request::Request;
 use tree::find_mount;
 
-fn same_place_lem(p: Place, q: Place) -> bool
+fn same_place(p: Place, q: Place) -> bool
     ensures { result ≡ same_place p q }
 {
     if p.mount != q.mount {
@@ -92,11 +92,11 @@ fn up_from(image: &[u8], c: Counts, k: Request, p: Place) -> Outcome
     ensures { result ≡ move_outcome (restrictions_for k) (up_from (request_for image.now k) p) }
 {
     let root = k.root;
-    if same_place_lem(p, root) {
+    if same_place(p, root) {
         return Outcome::Go(p);
     }
     let top = mount_root(image, c, 0);
-    if same_place_lem(
+    if same_place(
         p,
         Place {
             mount: 0,
@@ -114,7 +114,7 @@ pub fn go_up(image: &[u8], c: Counts, k: Request, p: Place) -> Outcome
     ensures { result ≡ move_outcome (restrictions_for k) (go_up (request_for image.now k) p) }
 {
     let handle = k.handle;
-    if !same_place_lem(p, handle) {
+    if !same_place(p, handle) {
         return up_from(image, c, k, p);
     }
     if k.mark {

@@ -1,5 +1,7 @@
 // The descriptor table: 64 lent numbers, each a slot that is closed or holds a handle. Whatever numbers they are, they stand for some 64
 // slots. A refusal leaves them as they were. Nothing here checks a table or walks.
+#![tactic(auto)]
+
 ghost use Rattle.std.specs.Prelude.{true, List, ◌≡◌, ℕ, ◌≤◌, ◌<◌, length};
 ghost use Rattle.model.specs.Answers.{refusal, not_walked};
 ghost use Rattle.model.specs.Tree.{tree_of, is_directory};

@@ -1,4 +1,6 @@
 // What is done to the descriptor table by a walk or a table check: opens and starts.
+#![tactic(auto)]
+
 ghost use Rattle.std.specs.Prelude.{◌≡◌, ◌≤◌, length, drop};
 ghost use Rattle.model.specs.TableCheck.{table_check};
 ghost use Rattle.model.specs.Descriptors.{open_path, start, asked_in_vain, serve};

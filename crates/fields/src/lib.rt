@@ -1,4 +1,6 @@
 // Little-endian fields. A wider one is made of two halves, so that one law over the width serves them all.
+#![tactic(auto)]
+
 ghost use Rattle.std.specs.Prelude.{◌≡◌, ℕ, ◌+◌, ◌^◌, ◌≤◌, ◌<◌, length};
 ghost use Rattle.model.specs.Bytes.{field};
 

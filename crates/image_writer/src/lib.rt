@@ -1,4 +1,6 @@
 // Writes the image of the tree that four parts stand for over the front of a lent buffer, part by part. Its callers have judged the parts.
+#![tactic(auto)]
+
 ghost use Rattle.std.specs.Prelude.{cond, [], ◌∷◌, ◌≡◌, ℕ, ◌+◌, ◌*◌, ◌^◌, ◌≤◌, ◌<◌, eqb, length};
 ghost use Rattle.model.specs.Bytes.{fields_bytes, join_below, over};
 ghost use Rattle.model.specs.Tree.{kind_in, parent_in, first_in, count_in, name_length_in, entry_node_in};
@@ -15,7 +17,7 @@ use parts::texts::{body, name};
 use writer::{lay, put_u16s, put_u32, put_u32s};
 
 // How many bytes the names take, the whole text, and the image.
-#[derive(Drop)]
+#[derive(Clone, Copy)]
 pub struct Lengths {
     pub names: usize,
     pub text: usize,

@@ -1,4 +1,6 @@
 // A name looked up in one directory of a table (RULES 18.5).
+#![tactic(auto)]
+
 ghost use Rattle.std.specs.Prelude.{◌≡◌, ℕ};
 ghost use Rattle.model.specs.Lookup.{missing, lookup_name};
 ghost use Rattle.model.specs.TableCheck.{table_check};

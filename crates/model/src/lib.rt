@@ -1,5 +1,6 @@
 // The types that the definitions, the promises and the code share. The definitions are in specs/, the theorems over them in
 // proofs/.
+#![tactic(auto)]
 
 // The limits of a walk (RULES 11): the most bytes that a name has,
 pub const MOST_NAME: usize = 255;
@@ -14,14 +15,14 @@ pub const MOST_LINKS: usize = 40;
 pub const NO_DETAIL: u32 = 255;
 
 // A place (RULES 3.5): a node as it is seen through one mount.
-#[derive(Drop)]
+#[derive(Clone, Copy)]
 pub struct Place {
     pub mount: usize,
     pub node: usize,
 }
 
 // A directory handle. The mark is the below mark of OpenBSD's O_BELOW proposal, kept with the handle (RULES 5.1, 6.9).
-#[derive(Drop)]
+#[derive(Clone, Copy)]
 pub struct Handle {
     pub mount: usize,
     pub node: usize,
@@ -29,14 +30,14 @@ pub struct Handle {
 }
 
 // How far a walk came: components taken and links followed (RULES 11.2).
-#[derive(Drop)]
+#[derive(Clone, Copy)]
 pub struct Progress {
     pub components: usize,
     pub links: usize,
 }
 
 // A walk's state: where it stands, how far it came, and whether it must end on a directory (RULES 9.1).
-#[derive(Drop)]
+#[derive(Clone, Copy)]
 pub struct State {
     pub place: Place,
     pub progress: Progress,
@@ -44,7 +45,7 @@ pub struct State {
 }
 
 // What Found carries (RULES 5.3).
-#[derive(Drop)]
+#[derive(Clone, Copy)]
 pub struct Reached {
     pub place: Place,
     pub progress: Progress,
@@ -52,7 +53,7 @@ pub struct Reached {
 
 // The error numbers that the resolver and the descriptor table give, by their usual names (RULES 5.7, 17.8). Answers.antt in specs/ has each
 // one's number.
-#[derive(Drop)]
+#[derive(Clone, Copy)]
 pub enum Errno {
     Euclean,
     E2big,
@@ -69,7 +70,7 @@ pub enum Errno {
 }
 
 // What a refusal carries (RULES 5.4): detail is an unknown bit's number, else NO_DETAIL.
-#[derive(Drop)]
+#[derive(Clone, Copy)]
 pub struct Refusal {
     pub errno: Errno,
     pub detail: u32,
@@ -77,28 +78,28 @@ pub struct Refusal {
 }
 
 // The resolver's answer.
-#[derive(Drop)]
+#[derive(Clone, Copy)]
 pub enum Answer {
     Found(Reached),
     Refused(Refusal),
 }
 
 // The table check's answer: accepted, or the lowest rule broken with the lowest record that breaks it (RULES 4.8).
-#[derive(Drop)]
+#[derive(Clone, Copy)]
 pub enum Verdict {
     Accepted,
     Broken { rule: usize, record: usize },
 }
 
 // A descriptor that was opened: its number, and what was reached (RULES 17.6).
-#[derive(Drop)]
+#[derive(Clone, Copy)]
 pub struct Descriptor {
     pub number: usize,
     pub reached: Reached,
 }
 
 // What a descriptor call comes to (RULES 17.3): a path opened, a number duplicated, a close or a mark done, or a refusal.
-#[derive(Drop)]
+#[derive(Clone, Copy)]
 pub enum Reply {
     Opened(Descriptor),
     Duplicated(usize),
@@ -107,7 +108,7 @@ pub enum Reply {
 }
 
 // An entry found by its name: its number, the node that it names, and how many names were compared (RULES 18.7).
-#[derive(Drop)]
+#[derive(Clone, Copy)]
 pub struct Entry {
     pub number: usize,
     pub node: usize,
@@ -115,14 +116,14 @@ pub struct Entry {
 }
 
 // Why no entry is found, and how many names were compared (RULES 18.6).
-#[derive(Drop)]
+#[derive(Clone, Copy)]
 pub struct Miss {
     pub errno: Errno,
     pub compared: usize,
 }
 
 // What looking a name up in one directory comes to (RULES 18.5).
-#[derive(Drop)]
+#[derive(Clone, Copy)]
 pub enum Lookup {
     Named(Entry),
     Unnamed(Miss),
@@ -130,7 +131,7 @@ pub enum Lookup {
 
 // What writing an image comes to (RULES 19.10): written, with its length; the lowest rule that it would break, with the lowest record that breaks
 // it; or a buffer too short for it, with the length that it needs.
-#[derive(Drop)]
+#[derive(Clone, Copy)]
 pub enum Built {
     Written(usize),
     Broken { rule: usize, record: usize },

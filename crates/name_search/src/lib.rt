@@ -1,4 +1,6 @@
 // A name in a directory: where names are few and short one by one, else by halving, which tells how many names it compared.
+#![tactic(auto)]
+
 ghost use Rattle.std.specs.Prelude.{true, ◌≡◌, ℕ, ◌<◌, length};
 ghost use Rattle.model.specs.Bytes.{same_bytes};
 ghost use Rattle.model.specs.Tree.{tree_of, is_directory, lookup};
@@ -44,7 +46,7 @@ fn scan_names(image: &[u8], c: Counts, n: usize, wanted: &[u8]) -> Search
 }
 
 // What a search by halving comes to: what it finds, and how many names it compares.
-#[derive(Drop)]
+#[derive(Clone, Copy)]
 pub struct Halving {
     pub found: Search,
     pub compared: usize,

@@ -1,4 +1,6 @@
 // What a public call tells, as numbers at the front of a lent array: a verdict, an answer, a lookup, a reply, and in them an errno's number.
+#![tactic(auto)]
+
 ghost use Rattle.std.specs.Prelude.{◌∷◌, ◌++◌, ◌≡◌, ◌≤◌, length, drop};
 ghost use Rattle.model.specs.Answers.{errno_number, answer_numbers, verdict_numbers};
 ghost use Rattle.model.specs.Lookup.{lookup_numbers};

@@ -1,4 +1,6 @@
 // The checks of open_how (RULES 6): u64 flags, u16 mode, 6 padding bytes, u64 resolve.
+#![tactic(auto)]
+
 ghost use Rattle.std.specs.Prelude.{◌≡◌, ◌≤◌, ◌<◌, length};
 ghost use Rattle.model.specs.Bytes.{has};
 ghost use Rattle.model.specs.OpenHow.{unknown_bit, refuse_unknown, tail_set, length_refused, scopes_refused, mode_refused};
@@ -46,14 +48,14 @@ pub const FIELDS: usize = 24;
 const MOST_HOW: usize = 4096;
 
 // The fields that a walk goes by: mode is 0 where it walks.
-#[derive(Drop)]
+#[derive(Clone, Copy)]
 pub struct How {
     pub flags: u64,
     pub resolve: u64,
 }
 
 // The fields of an open_how that no check refuses.
-#[derive(Drop)]
+#[derive(Clone, Copy)]
 pub enum HowRead {
     Fields(How),
     Refused(Refusal),

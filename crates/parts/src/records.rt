@@ -9,7 +9,7 @@ ghost use Rattle.parts.specs.Parts.{nodes_tree, NodeRecords};
 use fields::{u16_at, u32_at};
 
 // How many nodes, mounts and entries there are.
-#[derive(Drop)]
+#[derive(Clone, Copy)]
 pub struct Counts {
     pub nodes: usize,
     pub mounts: usize,

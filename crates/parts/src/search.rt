@@ -1,5 +1,5 @@
 // What a search by number finds.
-#[derive(Drop)]
+#[derive(Clone, Copy)]
 pub enum Search {
     At(usize),
     Nowhere,

@@ -2,6 +2,8 @@
 // covers no function over a struct that holds a slice, so those here are thin: each takes a reader apart or puts one together,
 // leaves the work to a covered function of a slice and a position, and is proved by hand. `next_component` and `at_end` serve
 // callers that hold a text and a position: they make the reader, and such a caller's own proof stays the borrow checker's.
+#![tactic(auto)]
+
 ghost use Rattle.std.specs.Prelude.{◌≡◌, ◌≤◌, eqb, length, drop};
 ghost use Rattle.text.specs.Positions.{next_start};
 ghost use Rattle.reader.specs.Spans.{span_at};
@@ -9,14 +11,14 @@ ghost use Rattle.reader.specs.Spans.{span_at};
 use text::{component_end, skip_slashes};
 
 // A text and a position in it: what remains are the bytes from there on.
-#[derive(Drop)]
+#[derive(Clone, Copy)]
 pub struct Reader<'a> {
     pub text: &'a [u8],
     pub at: usize,
 }
 
 // Where a component ends, and where the one after it starts, or where the text ends.
-#[derive(Drop)]
+#[derive(Clone, Copy)]
 pub struct Span {
     pub end: usize,
     pub next: usize,

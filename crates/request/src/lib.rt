@@ -1,4 +1,6 @@
 // What a call asks of its walk, once no check refuses it.
+#![tactic(auto)]
+
 ghost use Rattle.std.specs.Prelude.{not, ◌||◌, ◌≡◌};
 ghost use Rattle.model.specs.Bytes.{has};
 ghost use Rattle.model.specs.OpenHow.{O_NOFOLLOW};
@@ -11,7 +13,7 @@ use open_how::{How, IN_ROOT, O_NOFOLLOW, O_PATH, has};
 use parts::records::Counts;
 
 // A request as numbers: the handle's place and mark, the root, resolve's bits, whether a last link is followed, and O_PATH.
-#[derive(Drop)]
+#[derive(Clone, Copy)]
 pub struct Request {
     pub handle: Place,
     pub root: Place,

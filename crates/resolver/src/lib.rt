@@ -1,4 +1,6 @@
 // The resolver: a table image, a handle, a path and an open_how of any bytes to the answer.
+#![tactic(auto)]
+
 ghost use Rattle.std.specs.Prelude.{false, ◌||◌, ◌≡◌, ℕ, ◌≤◌, length};
 ghost use Rattle.model.specs.Bytes.{has};
 ghost use Rattle.model.specs.OpenHow.{O_DIRECTORY};
@@ -128,7 +130,7 @@ pub fn resolve<'a>(image: &'a [u8], h: Handle, path: &'a [u8], how: &[u8]) -> An
 }
 
 // The answers of two calls.
-#[derive(Drop)]
+#[derive(Clone, Copy)]
 pub struct Pair {
     pub first: Answer,
     pub second: Answer,

@@ -1,4 +1,6 @@
 // A slot as one number: 0 is closed; a handle's is its mark, its node and its mount, from the lowest bit on, and one more.
+#![tactic(auto)]
+
 ghost use Rattle.std.specs.Prelude.{◌++◌, ◌≡◌, ◌≤◌, ◌<◌, length, drop, replicate};
 ghost use Rattle.model.specs.Descriptors.{holding, handle_at, slot_at, lowest_free};
 ghost use Rattle.parts.specs.Searches.{found_or};

@@ -1,4 +1,6 @@
 // What becomes of a walk's state: a component taken, a place stood on, a link followed, an error, and the end.
+#![tactic(auto)]
+
 ghost use Rattle.std.specs.Prelude.{◌||◌, ◌≡◌, ◌<◌};
 ghost use Rattle.model.specs.Tree.{tree_of};
 ghost use Rattle.model.specs.Answers.{refused};

@@ -1,4 +1,6 @@
 // Which of two byte strings comes first, and how many bytes they have in common at their start.
+#![tactic(auto)]
+
 ghost use Rattle.std.specs.Prelude.{cond, ◌≡◌, ◌≤◌, ◌<◌, eqb};
 ghost use Rattle.model.specs.Bytes.{before};
 ghost use Rattle.string_order.specs.Orders.{order_of, ordered};
@@ -50,7 +52,7 @@ pub fn comes_before(a: &[u8], b: &[u8]) -> bool
 }
 
 // How two strings stand in the bytewise order.
-#[derive(Drop)]
+#[derive(Clone, Copy)]
 pub enum Order {
     Before,
     Same,

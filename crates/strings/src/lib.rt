@@ -1,4 +1,6 @@
 // Byte strings: whether one holds a byte, whether two are the same, and which is "." or "..".
+#![tactic(auto)]
+
 ghost use Rattle.std.specs.Prelude.{◌≡◌, ◌≤◌, ◌<◌, length};
 ghost use Rattle.model.specs.Bytes.{contains, same_bytes};
 ghost use Rattle.strings.specs.Dots.{dots_of};

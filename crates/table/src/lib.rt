@@ -1,4 +1,6 @@
 // The table check: an image of any bytes and any length to accepted, or to the lowest rule broken with the lowest record.
+#![tactic(auto)]
+
 ghost use Rattle.std.specs.Prelude.{◌&&◌, ◌≡◌, ℕ, ◌^◌, ◌≤◌, ◌<◌, eqb, length, take};
 ghost use Rattle.model.specs.Bytes.{field, same_bytes, ascii};
 ghost use Rattle.model.specs.Tree.{sizes_of};

@@ -1,5 +1,7 @@
 // Rule 5 of the table check: entry records, one function for each sentence. It goes over the directories and their entries inside,
 // so that no owner is searched: the nodes keep rule 4, and so each entry is in one directory.
+#![tactic(auto)]
+
 mod names;
 
 ghost use Rattle.std.specs.Prelude.{true, [], ◌≡◌, ◌-◌, ◌<◌};

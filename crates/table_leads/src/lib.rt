@@ -1,5 +1,7 @@
 // What a record alone tells of rules 6 and 7, and the quick way to what is left: whether a directory is under a mount's root. The quick
 // way follows parents for a number of steps that all records share, and goes as far as records are seen to keep their rule.
+#![tactic(auto)]
+
 ghost use Rattle.std.specs.Prelude.{true, [], ◌≡◌, ◌-◌, ◌≤◌, ◌<◌};
 ghost use Rattle.model.specs.Tree.{is_directory, parent_in};
 ghost use Rattle.laws.specs.Acceptance.{DirectoriesHold};
@@ -13,7 +15,7 @@ use parts::records::{
 };
 
 // What a mount's or a magic link's own record tells of its rule.
-#[derive(Drop)]
+#[derive(Clone, Copy)]
 pub enum Lead {
     // The rule is kept.
     Settled,

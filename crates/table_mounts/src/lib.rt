@@ -1,5 +1,7 @@
 // Rule 6 of the table check: mounts. Those that share parent and point with an earlier one are looked for first; below the lowest of them,
 // what each record tells by itself decides, by the quick way as far as that sees the rule kept, and from where it stops by the exact way.
+#![tactic(auto)]
+
 ghost use Rattle.std.specs.Prelude.{false, [], ◌≡◌, ◌+◌, ◌*◌, ◌≤◌, ◌<◌, length};
 ghost use Rattle.model.specs.TableCheck.{shares_point, rule6};
 ghost use Rattle.laws.specs.Acceptance.{DirectoriesHold};

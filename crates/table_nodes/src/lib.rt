@@ -1,4 +1,6 @@
 // Rule 4 of the table check: node records, one function for each sentence.
+#![tactic(auto)]
+
 ghost use Rattle.std.specs.Prelude.{false, [], ◌≡◌, ◌^◌, ◌<◌};
 ghost use Rattle.model.specs.Tree.{kind_in};
 ghost use Rattle.model.specs.TableCheck.{counts_before, directory_count, directory_holds, file_holds, symlink_holds, magic_holds, node_holds, rule4};

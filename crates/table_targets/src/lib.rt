@@ -1,5 +1,7 @@
 // Rule 7 of the table check: the targets of magic links. A first pass goes as far as records alone keep the rule. From there on the quick way
 // goes as far as it sees the rule kept, and from where it stops the exact way decides.
+#![tactic(auto)]
+
 ghost use Rattle.std.specs.Prelude.{true, ◌≡◌, []};
 ghost use Rattle.model.specs.TableCheck.{rule7};
 ghost use Rattle.laws.specs.Acceptance.{DirectoriesHold};

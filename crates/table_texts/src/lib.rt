@@ -1,5 +1,7 @@
 // Zero bytes and slashes in names and bodies. Most often the text has none at all. Where it has, names and bodies are read one by one; where
 // these are many or share the text, so that it would be read again and again, it is marked once instead.
+#![tactic(auto)]
+
 ghost use Rattle.std.specs.Prelude.{◌≡◌, ◌+◌, ◌*◌, ◌^◌, ◌≤◌, ◌<◌, length};
 ghost use Rattle.text_marks.specs.Marks.{Marked};
 ghost use Rattle.table_texts.specs.Barred.{record_size, part_start, part_length, record_barred, first_barred, few_records, sure_records, seen_clean, longer_than, is_marked};

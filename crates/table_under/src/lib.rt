@@ -1,5 +1,7 @@
 // The exact way to whether directories are under roots of mounts, for the records that the quick way does not settle. Each directory gets the
 // row of the nearest mount root at or above it; a root's row has a bit for each root that it is under, so that a question is one bit.
+#![tactic(auto)]
+
 ghost use Rattle.std.specs.Prelude.{◌≡◌, ◌+◌, ◌*◌, ◌≤◌, ◌<◌, length};
 ghost use Rattle.model.specs.Tree.{parent_in, mount_root_in};
 ghost use Rattle.laws.specs.Acceptance.{DirectoriesHold};

@@ -1,5 +1,7 @@
 // Texts, that is the given path and the bodies of symbolic links: which bytes one has, and where in it the next component starts
 // and ends.
+#![tactic(auto)]
+
 ghost use Rattle.std.specs.Prelude.{◌≡◌, ℕ, ◌≤◌, length};
 ghost use Rattle.model.specs.Tree.{tree_of};
 ghost use Rattle.model.specs.Path.{absolute, ends_in_slash};

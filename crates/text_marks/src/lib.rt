@@ -1,5 +1,7 @@
 // Bytes that names and bodies may not hold, in a text that is marked once: a bit for each byte, by blocks of 64, and for each block the first
 // barred byte behind it. A part of a marked text is then known to be clean in a few steps, however long it is.
+#![tactic(auto)]
+
 pub mod blocks;
 
 ghost use Rattle.std.specs.Prelude.{◌≡◌, ◌*◌, ◌/◌, ◌%◌, ◌≤◌, ◌<◌, length};

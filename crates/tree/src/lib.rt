@@ -1,4 +1,6 @@
 // Searches over the tree: the mount on a place, and whether a directory is under a root.
+#![tactic(auto)]
+
 ghost use Rattle.std.specs.Prelude.{true, ◌≡◌, ℕ, ◌+◌, ◌≤◌, ◌<◌};
 ghost use Rattle.model.specs.Tree.{tree_of, is_directory, under, mount_on};
 ghost use Rattle.model.specs.TableCheck.{table_check};

@@ -1,6 +1,8 @@
 // The C interface: pointers with lengths and numbers in, the answer as numbers into a lent array. A lent array that is too short is
 // left as it was, and 0 is returned; else it is how many numbers were written. All else that is lent stays as it was, but for the 64 slots
 // of a descriptor table, which a call that is not refused may change.
+#![tactic(auto)]
+
 ghost use Rattle.std.specs.Prelude.{List, ◌≡◌, ℕ, length};
 ghost use Rattle.model.specs.Answers.{verdict_numbers};
 ghost use Rattle.model.specs.TableCheck.{table_check};

@@ -1,4 +1,6 @@
 // The walk: a state that goes forward one component at a time over the open texts, and the run over it.
+#![tactic(auto)]
+
 ghost use Rattle.std.specs.Prelude.{◌&&◌, ◌≡◌, eqb, ◌≤◌, ◌<◌};
 ghost use Rattle.request.specs.Walking.{Walking};
 ghost use Rattle.image.specs.Counts.{Counted};
@@ -15,7 +17,7 @@ use state::{finish, followed_to, standing_on, stop, taken};
 use text::{ends_in_slash, name_of, skip_slashes, text_of};
 
 // A walk between two components: its state, the text that it reads and where in it, and how many texts are suspended behind that.
-#[derive(Drop)]
+#[derive(Clone, Copy)]
 pub struct Walk {
     pub state: State,
     pub text: usize,
@@ -25,7 +27,7 @@ pub struct Walk {
 
 // The next state, or the end: every component taken, or an error in a state. Each case holds a whole state in the same place, so that
 // the compiler keeps it in registers from one component to the next.
-#[derive(Drop)]
+#[derive(Clone, Copy)]
 pub enum Next {
     More(Walk),
     Done(State),

@@ -1,5 +1,7 @@
 // Lays bytes over a lent buffer from a position on: little-endian fields, and copies of lent bytes. A wider field is made of two halves, so that one
 // law over the width serves them all.
+#![tactic(auto)]
+
 ghost use Rattle.std.specs.Prelude.{[], ◌∷◌, ◌≡◌, ◌+◌, ◌-◌, ◌*◌, ◌/◌, ◌%◌, ◌≤◌, length, take};
 ghost use Rattle.model.specs.Bytes.{field_bytes, fields_bytes, over, part};
 

@@ -1,0 +1,16 @@
+-- `byte_blocks::differs` meets its contract. The loop's invariant: the block differs if a byte was seen to, or what is left of it
+-- from `k` on does. Assumes nothing.
+use borrow.Author.Rules.{rules}
+use Prim.Native.Nat.{◌-◌}
+use mathlib.Core.Logic.{⊎_elim}
+use Rattle.byte_blocks.proofs.BlockLaws.{seen_start, seen_other, seen_same, seen-whole}
+use Rattle.byte_blocks.proofs.differs.Goals as goal
+
+pub loop-k-init : goal.loop-k-init
+loop-k-init c = search (rules, seen_start)
+
+pub loop-k-preserved : goal.loop-k-preserved
+loop-k-preserved c = ⊎_elim (λ w. search (rules, seen_other)) (λ w. search (rules, seen_same)) c.if-a-k.branch
+
+pub returns : goal.returns
+returns c = search (rules, seen-whole)

@@ -1,0 +1,29 @@
+-- `call::handle::check_handle` meets its contract. The tests are the definition's, in its order. Assumes nothing.
+use borrow.Author.Rules.{rules}
+use mathlib.Core.Path.{sym, ◌∙◌}
+use borrow.Author.Tests.{not-false}
+use Rattle.laws.proofs.Acceptance.{accepted-sound}
+use Rattle.call.proofs.HandleLaws.{no-mount, no_node, no-directory, not-under, is-covered, is-good}
+use Rattle.call.proofs.handle.check_handle.Goals as goal
+
+pub returns-then-c-h : goal.returns-then-c-h
+returns-then-c-h c = search (rules, no-mount)
+
+pub returns-then-c-h-2 : goal.returns-then-c-h-2
+returns-then-c-h-2 c = search (rules, no_node)
+
+pub returns-then-not-is_directory : goal.returns-then-not-is_directory
+returns-then-not-is_directory c = search (rules, no-directory)
+
+pub is_under-requires : goal.is_under-requires
+is_under-requires c = let sound = accepted-sound c.args.image.now c.requires.1 in
+    (c.requires.0.sized, sound.nodes_hold.directories_hold, sym c.is_directory.ensures ∙ not-false _ c.if-not-is_directory.false)
+
+pub returns-then-not-is_under : goal.returns-then-not-is_under
+returns-then-not-is_under c = search (rules, not-under)
+
+pub returns-in-At : goal.returns-in-At
+returns-in-At c = search (rules, is-covered)
+
+pub returns-in-Nowhere : goal.returns-in-Nowhere
+returns-in-Nowhere c = search (rules, is-good)

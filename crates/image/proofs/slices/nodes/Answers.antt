@@ -1,0 +1,11 @@
+-- `image::slices::nodes` meets its contract. Assumes nothing.
+use mathlib.Core.Path.{refl}
+use Prim.Native.Nat.{◌+◌, ◌*◌}
+use native.Mathlib.Omega.{arith}
+use Rattle.model.specs.Tree.{sizes_of, nodes_part}
+use Rattle.laws.proofs.StringLaws.{part-between}
+use Rattle.image.proofs.slices.nodes.Goals as goal
+
+pub returns : goal.returns
+unfolding nodes_part sizes_of
+returns c = part-between _ 20 _ 20 (20 + 12 * c.u16_at.result) refl (omega arith)

@@ -1,0 +1,11 @@
+-- `resolver::resolve` meets its contract. Assumes nothing.
+use borrow.Author.Rules.{rules}
+use Rattle.laws.proofs.Acceptance.{accepted-told}
+use Rattle.resolver.proofs.CallLaws.{broken-call}
+use Rattle.resolver.proofs.resolve.Goals as goal
+
+pub resolve_accepted-requires : goal.resolve_accepted-requires
+resolve_accepted-requires c = search (rules, accepted-told)
+
+pub returns-in-Broken : goal.returns-in-Broken
+returns-in-Broken c = search (rules, broken-call)

@@ -1,0 +1,15 @@
+-- `table_leads::first_unseen` meets its contract. The loop's invariant: where the quick way stops from here with the steps left is where it
+-- stops from the start. Assumes nothing.
+use borrow.Author.Rules.{rules}
+use Prim.Native.Nat.{◌-◌}
+use Rattle.table_leads.proofs.ClimbLaws.{stops-here, goes_on, stops-done}
+use Rattle.table_leads.proofs.first_unseen.Goals as goal
+
+pub returns-then-left-eq0 : goal.returns-then-left-eq0
+returns-then-left-eq0 c = search (rules, stops-here)
+
+pub loop-k-preserved : goal.loop-k-preserved
+loop-k-preserved c = search (rules, goes_on)
+
+pub returns : goal.returns
+returns c = search (rules, stops-done)

@@ -1,0 +1,14 @@
+-- `table_mounts::first_clash_of_few` meets its contract. The loop's invariant: the first clash is the first from here on. Assumes nothing.
+use borrow.Author.Rules.{rules}
+use Prim.Native.Nat.{◌-◌}
+use Rattle.parts.proofs.FoundLaws.{first-hit, first-miss, first-none}
+use Rattle.table_mounts.proofs.first_clash_of_few.Goals as goal
+
+pub returns-then-shares_point : goal.returns-then-shares_point
+returns-then-shares_point c = search (rules, first-hit)
+
+pub loop-m-preserved : goal.loop-m-preserved
+loop-m-preserved c = search (rules, first-miss)
+
+pub returns : goal.returns
+returns c = search (rules, first-none)

@@ -1,0 +1,16 @@
+-- `text_marks::blocks::full_marks` meets its contract. The loop's invariant: the bytes from `i` on are marked. Assumes nothing.
+use borrow.Author.Rules.{rules}
+use Rattle.text_marks.proofs.BlockLaws.{eight-mul, eight-add, eight-more, eight-all}
+use Rattle.text_marks.proofs.blocks.full_marks.Goals as goal
+
+pub overflow_mul-marks : goal.overflow_mul-marks
+overflow_mul-marks c = search (rules, eight-mul)
+
+pub overflow_add-marks : goal.overflow_add-marks
+overflow_add-marks c = search (rules, eight-add)
+
+pub loop-i-preserved : goal.loop-i-preserved
+loop-i-preserved c = search (rules, eight-more)
+
+pub returns : goal.returns
+returns c = search (rules, eight-all)

@@ -1,0 +1,13 @@
+-- `text_marks::blocks::whole_holds` meets its contract. The loop's invariant: the byte stands in the block if it was found, or stands in
+-- what is left of it from `i` on. Assumes nothing.
+use borrow.Author.Rules.{rules}
+use Prim.Native.Nat.{◌-◌}
+use mathlib.Core.Logic.{⊎_elim}
+use Rattle.barred_bytes.proofs.SeenLaws.{block-hit, block-miss, block-all}
+use Rattle.text_marks.proofs.blocks.whole_holds.Goals as goal
+
+pub loop-i-preserved : goal.loop-i-preserved
+loop-i-preserved c = ⊎_elim (λ w. search (rules, block-hit)) (λ w. search (rules, block-miss)) c.if-text-at.branch
+
+pub returns : goal.returns
+returns c = search (rules, block-all)
