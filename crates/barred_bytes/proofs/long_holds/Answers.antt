@@ -2,16 +2,16 @@
 -- name if it was found, or stands from `i` on. Assumes nothing.
 use borrow.Author.Rules.{rules}
 use Prim.Native.Nat.{◌-◌}
-use mathlib.Core.Logic.{⊎_elim}
 use mathlib.Core.Path.{sym, ◌∙◌}
 use Rattle.laws.proofs.StringLaws.{seen-hit, seen-miss, seen_all}
 use Rattle.barred_bytes.specs.Barred.{holds_barred}
 use Rattle.barred_bytes.proofs.long_holds.Goals as goal
+use Rattle.barred_bytes.proofs.long_holds.Goals.{then-s-i-eq47, then-s-i-eq0, else-s-i-eq47, else-s-i-eq0}
 
 pub loop-i-preserved : goal.loop-i-preserved
 loop-i-preserved c = (
-  ⊎_elim (λ w. search (rules, seen-hit)) (λ w. search (rules, seen-miss)) c.if-s-i-eq0.branch,
-  ⊎_elim (λ w. search (rules, seen-hit)) (λ w. search (rules, seen-miss)) c.if-s-i-eq47.branch,
+  elim c.if-s-i-eq0.branch [ then-s-i-eq0 w ↦ search (rules, seen-hit) | else-s-i-eq0 w ↦ search (rules, seen-miss) ],
+  elim c.if-s-i-eq47.branch [ then-s-i-eq47 w ↦ search (rules, seen-hit) | else-s-i-eq47 w ↦ search (rules, seen-miss) ],
 
 pub returns-then-zero : goal.returns-then-zero
 unfolding holds_barred

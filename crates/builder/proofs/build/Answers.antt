@@ -1,5 +1,7 @@
 -- `builder::build` meets its contract: the first test that refuses decides. Assumes nothing.
 use Rattle.builder.proofs.BuildLaws.{by-counts, counted, by_length, by-fit, by_whole, node_records, mount_records, entry_records, by-record, too_short, fitting, written}
+use mathlib.Core.Path.{ap}
+use mathlib.Core.Bool.{not}
 use Rattle.builder.proofs.build.Goals as goal
 
 pub returns-then-too_many : goal.returns-then-too_many
@@ -21,25 +23,25 @@ pub returns-then-not-counts_fit : goal.returns-then-not-counts_fit
 returns-then-not-counts_fit c = let a = c.args in
     let is = c.count-c.ensures in
     by-fit a.nodes.now a.mounts.now a.entries.now a.text.now a.out.now is
-    c.measure-l.ensures c.if-l-gt-MOST_IMAGE.false c.counts_fit.ensures c.if-not-counts_fit.true
+    c.measure-l.ensures c.if-l-gt-MOST_IMAGE.false c.counts_fit.ensures (ap not c.if-not-counts_fit.true)
 
 pub returns-then-not-records_whole : goal.returns-then-not-records_whole
 returns-then-not-records_whole c = let a = c.args in
     let is = c.count-c.ensures in
     by_whole a.nodes.now a.mounts.now a.entries.now a.text.now a.out.now is
     c.measure-l.ensures c.if-l-gt-MOST_IMAGE.false c.counts_fit.ensures
-    c.if-not-counts_fit.false c.records_whole.ensures c.if-not-records_whole.true
+    (ap not c.if-not-counts_fit.false) c.records_whole.ensures (ap not c.if-not-records_whole.true)
 
 pub check_records-verdict-requires : goal.check_records-verdict-requires
 check_records-verdict-requires c = let a = c.args in
     let is = c.count-c.ensures in
     let told = c.records_whole.ensures in (
       node_records a.nodes.now a.mounts.now a.entries.now a.text.now a.out.now is c.measure-l.ensures
-          c.if-l-gt-MOST_IMAGE.false c.counts_fit.ensures c.if-not-counts_fit.false told c.if-not-records_whole.false,
+          c.if-l-gt-MOST_IMAGE.false c.counts_fit.ensures (ap not c.if-not-counts_fit.false) told (ap not c.if-not-records_whole.false),
       mount_records a.nodes.now a.mounts.now a.entries.now a.text.now a.out.now is c.measure-l.ensures
-          c.if-l-gt-MOST_IMAGE.false c.counts_fit.ensures c.if-not-counts_fit.false told c.if-not-records_whole.false,
+          c.if-l-gt-MOST_IMAGE.false c.counts_fit.ensures (ap not c.if-not-counts_fit.false) told (ap not c.if-not-records_whole.false),
       entry_records a.nodes.now a.mounts.now a.entries.now a.text.now a.out.now is c.measure-l.ensures
-          c.if-l-gt-MOST_IMAGE.false c.counts_fit.ensures c.if-not-counts_fit.false told c.if-not-records_whole.false,
+          c.if-l-gt-MOST_IMAGE.false c.counts_fit.ensures (ap not c.if-not-counts_fit.false) told (ap not c.if-not-records_whole.false),
     )
 
 pub returns-in-Broken : goal.returns-in-Broken
@@ -48,7 +50,7 @@ returns-in-Broken c = let a = c.args in
     by-record a.nodes.now a.mounts.now a.entries.now a.text.now a.out.now is
     c.measure-l.ensures c.if-l-gt-MOST_IMAGE.false
     c.counts_fit.ensures
-    c.if-not-counts_fit.false c.records_whole.ensures c.if-not-records_whole.false
+    (ap not c.if-not-counts_fit.false) c.records_whole.ensures (ap not c.if-not-records_whole.false)
     c.check_records-verdict.ensures c.in-Broken.is
 
 pub returns-then-out-l : goal.returns-then-out-l
@@ -57,8 +59,8 @@ returns-then-out-l c = let a = c.args in
     too_short a.nodes.now a.mounts.now a.entries.now a.text.now a.out.now is
     c.measure-l.ensures
     c.if-l-gt-MOST_IMAGE.false c.counts_fit.ensures
-    c.if-not-counts_fit.false c.records_whole.ensures
-    c.if-not-records_whole.false c.check_records-verdict.ensures c.in_default.is c.if-out-l.true
+    (ap not c.if-not-counts_fit.false) c.records_whole.ensures
+    (ap not c.if-not-records_whole.false) c.check_records-verdict.ensures c.in_default.is c.if-out-l.true
 
 pub put_image-requires : goal.put_image-requires
 put_image-requires c = let a = c.args in
@@ -67,8 +69,8 @@ put_image-requires c = let a = c.args in
     c.measure-l.ensures
     c.if-l-gt-MOST_IMAGE.false
     c.counts_fit.ensures
-    c.if-not-counts_fit.false c.records_whole.ensures
-    c.if-not-records_whole.false c.check_records-verdict.ensures c.in_default.is
+    (ap not c.if-not-counts_fit.false) c.records_whole.ensures
+    (ap not c.if-not-records_whole.false) c.check_records-verdict.ensures c.in_default.is
     c.if-out-l.false
 
 pub returns : goal.returns
@@ -78,7 +80,7 @@ returns c = let a = c.args in
     c.measure-l.ensures
     c.if-l-gt-MOST_IMAGE.false
     c.counts_fit.ensures
-    c.if-not-counts_fit.false
+    (ap not c.if-not-counts_fit.false)
     c.records_whole.ensures
-    c.if-not-records_whole.false c.check_records-verdict.ensures
+    (ap not c.if-not-records_whole.false) c.check_records-verdict.ensures
     c.in_default.is c.if-out-l.false c.put_image.ensures

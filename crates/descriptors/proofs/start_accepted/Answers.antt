@@ -11,4 +11,4 @@ pub mount_root-requires : goal.mount_root-requires
 mount_root-requires c = search (rules, counts, some_mount)
 
 pub returns : goal.returns
-returns c = start-open _ c.args.slots.now c.close_all.ensures c.requires.0 _ c.mount_root.ensures c.number_of_lem.ensures
+returns c = start-open _ c.args.slots.now c.close_all.ensures c.requires.0 _ c.mount_root.ensures c.number_of.ensures

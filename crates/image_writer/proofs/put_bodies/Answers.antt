@@ -34,7 +34,7 @@ overflow_add-at c = let a = c.args in
     let next =
     texts-next (body_bytes t) (body_length t) a.c.nodes a.from c.requires.2 c.loop-n.invariant
     c.loop-n-test.true (body-length-is a.c s x _ c.body_length-at.ensures) in
-    record { fits = omega (arith, next, c.well-formed) }
+    record { fits = omega (arith, next, c.well_formed) }
 
 pub loop-n-preserved : goal.loop-n-preserved
 loop-n-preserved c = let a = c.args in

@@ -1,6 +1,6 @@
 -- `image_writer::put_image` meets its contract. Assumes nothing.
 use native.Mathlib.Omega.{arith}
-use Rattle.image_writer.proofs.ImageLaws.{whole-is-length, all-fits, bodies-begin, names-few}
+use Rattle.image_writer.proofs.ImageLaws.{names-sum, whole-is-length, all-fits, bodies-begin, names-few, image-laid}
 use Rattle.image_writer.proofs.put_image.Goals as goal
 
 pub put_header-requires : goal.put_header-requires
@@ -34,10 +34,13 @@ overflow_add-text_at-2 c = let fit =
     record { fits = omega (arith, bodies-begin fit) }
 
 pub put_bodies-requires : goal.put_bodies-requires
-put_bodies-requires c = -- c
+put_bodies-requires c = let fit =
+    c.requires in
+    (fit.node_records, fit.bodies_inside, omega (arith, all-fits fit, names-sum fit))
 
 pub shape_of-out : goal.shape_of-out
-shape_of-out c = the c
+shape_of-out c = omega (arith, c.out-6-1.given, c.out-5-1.given, c.out-4-1.given, c.out-3-1.given, c.out-2-1.given, c.out-1.given)
 
 pub returns : goal.returns
-returns c = bodies' c
+returns c = image-laid c.args.out.now c.requires c.put_header.ensures c.put_nodes.ensures c.put_mounts.ensures
+    c.put_entries.ensures c.put_names.ensures c.put_bodies.ensures

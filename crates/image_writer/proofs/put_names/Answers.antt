@@ -30,7 +30,7 @@ overflow_add-at c = let a = c.args in
     let next =
     texts-next (name_in s x) (name_length_in s) a.c.entries a.from c.requires.2 c.loop-e.invariant
     c.loop-e-test.true c.name_length-at.ensures.0 in
-    record { fits = omega (arith, next, c.well-formed) }
+    record { fits = omega (arith, next, c.well_formed) }
 
 pub loop-e-preserved : goal.loop-e-preserved
 loop-e-preserved c = let a = c.args in

@@ -1,6 +1,5 @@
 -- `state::finish` meets its contract: one arm for each kind, and one for the other numbers. Assumes nothing.
 use borrow.Author.Rules.{rules}
-use mathlib.Core.Logic.{⊎_elim}
 use Rattle.state.proofs.EndLaws.{end-directory, required-file, required-other, end-file, end_below, end-above, end-link-path, end-link}
 use Rattle.state.proofs.finish.Goals as goal
 
@@ -26,4 +25,4 @@ pub returns-else-k : goal.returns-else-k
 returns-else-k c = search (rules, end-link)
 
 pub returns-else-s-3 : goal.returns-else-s-3
-returns-else-s-3 c = ⊎_elim (λ w. search (rules, end_below)) (λ w. search (rules, end-above)) c.in_default.branch
+returns-else-s-3 c = ⊎-elim (λ w. search (rules, end_below)) (λ w. search (rules, end-above)) c.in_default.branch

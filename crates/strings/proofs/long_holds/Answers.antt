@@ -2,12 +2,12 @@
 -- `i` on. Assumes nothing.
 use borrow.Author.Rules.{rules}
 use Prim.Native.Nat.{◌-◌}
-use mathlib.Core.Logic.{⊎_elim}
 use Rattle.laws.proofs.StringLaws.{seen-hit, seen-miss, seen_all}
 use Rattle.strings.proofs.long_holds.Goals as goal
+use Rattle.strings.proofs.long_holds.Goals.{then-s-i, else-s-i}
 
 pub loop-i-preserved : goal.loop-i-preserved
-loop-i-preserved c = ⊎_elim (λ w. search (rules, seen-hit)) (λ w. search (rules, seen-miss)) c.if-s-i.branch
+loop-i-preserved c = elim c.if-s-i.branch [ then-s-i w ↦ search (rules, seen-hit) | else-s-i w ↦ search (rules, seen-miss) ]
 
 pub returns : goal.returns
 returns c = search (rules, seen_all)

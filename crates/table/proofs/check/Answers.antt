@@ -1,5 +1,6 @@
 -- `table::check` meets its contract. Assumes nothing.
 use borrow.Author.Rules.{rules}
+use Rattle.model.specs.Tree.{tree_of}
 use Rattle.table.proofs.CheckLaws.{too_short, too_long, unsigned, unfit, sizes, counts, nodes-whole, mounts-whole, entries-whole, checked}
 use Rattle.table.proofs.check.Goals as goal
 
@@ -11,6 +12,10 @@ returns-then-image-gt-MOST_IMAGE c = search (rules, too_long)
 
 pub returns-then-not-is_signed : goal.returns-then-not-is_signed
 returns-then-not-is_signed c = search (rules, unsigned)
+
+pub sizes_fit-requires : goal.sizes_fit-requires
+unfolding tree_of
+sizes_fit-requires c = search rules
 
 pub returns-then-not-sizes_fit : goal.returns-then-not-sizes_fit
 returns-then-not-sizes_fit c = search (rules, unfit)

@@ -1,12 +1,14 @@
 -- `table::is_signed` meets its contract. Assumes nothing.
-use mathlib.Core.Path.{◌∙◌, sym}
-use native.Mathlib.Omega.{arith}
-use borrow.Author.Tests.{not-true}
-use lib.ListN.{length-take}
+use Prim.Native.Nat.{ℕ}
+use mathlib.Core.Path.{ap, ◌∙◌, sym}
+use lib.Dec.{eqb}
+use Rattle.model.specs.Bytes.{ascii}
 use Rattle.table.proofs.is_signed.Goals as goal
 
-pub slice_bounds-same-end : goal.slice_bounds-same-end
-slice_bounds-same-end c = simp length-take (omega arith)
+pub returns-then-not-same : goal.returns-then-not-same
+unfolding ascii
+returns-then-not-same c = rw (sym c.same.ensures ∙ c.if-not-same.true)
 
-pub u16_at-requires : goal.u16_at-requires
-u16_at-requires c = rw (sym c.same.ensures ∙ not-true _ c.if-not-same.true)
+pub returns : goal.returns
+unfolding ascii
+returns c = ap (λ (x : ℕ). eqb x 0) c.u16_at.ensures.0 ∙ rw (sym c.same.ensures ∙ c.if-not-same.false)

@@ -5,7 +5,6 @@ use mathlib.Core.Bool.{not}
 use mathlib.Core.Path.{◌≡◌, ap, ap₂, ◌∙◌, sym}
 use native.Mathlib.Nat.{lt_irrefl}
 use native.Mathlib.Omega.{arith}
-use borrow.Author.Tests.{not-false}
 use Rattle.laws.proofs.Acceptance.{directory-below}
 use Rattle.laws.proofs.ByteLaws.{finds-here, finds-on, finds-none}
 use Rattle.parts.specs.Parts.{entries_tree}
@@ -41,13 +40,13 @@ entry_holds-requires c = let p = c.requires in
     (p.0, record { directory = p.1; from = omega arith; below = omega arith }, i.0, i.4, p.2)
 
 pub returns-then-not-entry_holds : goal.returns-then-not-entry_holds
-returns-then-not-entry_holds c = let bad = ap not (sym c.entry_holds.ensures) ∙ c.if-not-entry_holds.true in
+returns-then-not-entry_holds c = let bad = ap not (sym c.entry_holds.ensures) ∙ (ap not c.if-not-entry_holds.true) in
     ap search_of (finds-here c.loop-e.invariant.5 c.loop-e-test.true bad)
 
 pub loop-e-preserved : goal.loop-e-preserved
 loop-e-preserved c = let l = c.loop-e in
     let i = l.invariant in
-    let holds = sym c.entry_holds.ensures ∙ not-false _ c.if-not-entry_holds.false in
+    let holds = sym c.entry_holds.ensures ∙ c.if-not-entry_holds.false in
     let back : l.e + 1 - 1 ≡ l.e = omega arith in
     (i.0, i.1, omega arith, omega arith, (λ _. rw back (entry-name _ l.e holds)), finds-on i.5 c.loop-e-test.true (ap not holds))
 

@@ -4,7 +4,6 @@ use mathlib.Core.Bool.{true}
 use mathlib.Core.List.{[]}
 use mathlib.Core.Path.{◌≡◌, ◌∙◌, sym}
 use native.Mathlib.Omega.{arith}
-use borrow.Author.Tests.{not-true, not-false}
 use Rattle.model.specs.Tree.{Tree, is_directory, holds}
 use Rattle.model.specs.TableCheck.{name_holds, ascends, stands_in_parent}
 use Rattle.parts.specs.Parts.{entries_tree}
@@ -29,32 +28,32 @@ start c = c
 
 name-kept : (c : goal.Else-not-name_holds) → name_holds (tree (start c)) (start c).args.e ≡ true
 unfolding name_holds
-name-kept c = sym c.name_holds.ensures ∙ not-false _ c.if-not-name_holds.false
+name-kept c = sym c.name_holds.ensures ∙ c.if-not-name_holds.false
 
 pub name_holds-requires : goal.name_holds-requires
-name_holds-requires c = (c.requires.0.entry_records, inside c, c.requires.4)
+name_holds-requires c = (c.requires.0.entry_records, inside (goal.at.name_holds-requires c).Start, c.requires.4)
 
 pub returns-then-not-name_holds : goal.returns-then-not-name_holds
 unfolding name_holds
-returns-then-not-name_holds c = sym (bad-name (tree c) c.args.e (sym c.name_holds.ensures ∙ not-true _ c.if-not-name_holds.true))
+returns-then-not-name_holds c = sym (bad-name (tree (goal.at.returns-then-not-name_holds c).Start) c.args.e (sym c.name_holds.ensures ∙ c.if-not-name_holds.true))
 
 pub entry_node-node-requires : goal.entry_node-node-requires
-entry_node-node-requires c = omega (arith, inside c, c.requires.0.entry_records.whole)
+entry_node-node-requires c = omega (arith, inside (goal.at.entry_node-node-requires c).Start, c.requires.0.entry_records.whole)
 
 pub returns-then-c-node : goal.returns-then-c-node
-returns-then-c-node c = sym (bad-node (tree c) c.args.e (omega arith))
+returns-then-c-node c = sym (bad-node (tree (goal.at.returns-then-c-node c).Start) c.args.e (omega arith))
 
 pub entry_ascends-requires : goal.entry_ascends-requires
-entry_ascends-requires c = let s = start c in
+entry_ascends-requires c = let s = start (goal.at.entry_ascends-requires c).Else-not-name_holds in
     let name = named s.args.c s.args.nodes.now s.args.entries.now s.args.text.now in
-    (name _ s.pre.0.entry_records (inside s) (name-kept c), λ l. name _ s.pre.0.entry_records (omega (arith, inside s)) (s.pre.3 l))
+    (name _ s.pre.0.entry_records (inside s) (name-kept (goal.at.entry_ascends-requires c).Else-not-name_holds), λ l. name _ s.pre.0.entry_records (omega (arith, inside s)) (s.pre.3 l))
 
 pub returns-then-not-entry_ascends : goal.returns-then-not-entry_ascends
-returns-then-not-entry_ascends c = let s = start c in
-    sym (bad-order (tree s) s.args.e (sym (order s) ∙ sym c.entry_ascends.ensures ∙ not-true _ c.if-not-entry_ascends.true))
+returns-then-not-entry_ascends c = let s = start (goal.at.returns-then-not-entry_ascends c).Else-not-name_holds in
+    sym (bad-order (tree s) s.args.e (sym (order s) ∙ sym c.entry_ascends.ensures ∙ c.if-not-entry_ascends.true))
 
 pub stands_in_parent-requires : goal.stands_in_parent-requires
-stands_in_parent-requires c = let s = start c in
+stands_in_parent-requires c = let s = start (goal.at.stands_in_parent-requires c).Else-not-name_holds in
     let a = s.args in
     let p = s.pre in
     let text = a.text.now in
@@ -66,6 +65,6 @@ stands_in_parent-requires c = let s = start c in
 
 pub returns : goal.returns
 unfolding stands_in_parent holds is_directory
-returns c = let s = start c in
-    let ascending = sym (order s) ∙ sym c.entry_ascends.ensures ∙ not-false _ c.if-not-entry_ascends.false in
-    c.stands_in_parent.ensures ∙ sym (entry-stands (tree s) s.args.e (name-kept c) (omega arith) ascending)
+returns c = let s = start (goal.at.returns c).Else-not-name_holds in
+    let ascending = sym (order s) ∙ sym c.entry_ascends.ensures ∙ c.if-not-entry_ascends.false in
+    c.stands_in_parent.ensures ∙ sym (entry-stands (tree s) s.args.e (name-kept (goal.at.returns c).Else-not-name_holds) (omega arith) ascending)

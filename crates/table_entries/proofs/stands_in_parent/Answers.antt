@@ -47,8 +47,8 @@ returns-then-node_kind-ne1 c = let a = c.args in
     sym (other-stands t a.e (not-directory t (t.entry_node a.e) (λ e. c.if-node_kind-ne1.true (k ∙ e))))
 
 pub returns-then-parent-n : goal.returns-then-parent-n
-returns-then-parent-n c = sym (stands c ∙ rw (ne_eqb _ (start c).args.n (λ e. c.if-parent-n.true (parent_is c ∙ e))))
+returns-then-parent-n c = sym (stands c ∙ rw (ne_eqb _ (start (goal.at.returns-then-parent-n c).After-node_parent-parent).args.n (λ e. c.if-parent-n.true (parent_is (goal.at.returns-then-parent-n c).After-node_parent-parent ∙ e))))
 
 pub returns : goal.returns
-returns c = ap₂ ltb (parent_is c) c.entry_node-node.ensures.0
-    ∙ sym (stands c ∙ rw (eq-eqb _ (start c).args.n (sym (parent_is c) ∙ c.if-parent-n.false)))
+returns c = ap₂ ltb (parent_is (goal.at.returns c).After-node_parent-parent) c.entry_node-node.ensures.0
+    ∙ sym (stands c ∙ rw (eq-eqb _ (start (goal.at.returns c).After-node_parent-parent).args.n (sym (parent_is (goal.at.returns c).After-node_parent-parent) ∙ c.if-parent-n.false)))

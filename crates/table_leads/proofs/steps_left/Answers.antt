@@ -14,9 +14,8 @@ pub mount_root-requires : goal.mount_root-requires
 mount_root-requires c = let a = c.args in
     let pre = c.requires in
     let lead-of = c.lead_of in
-    let mount = c.mount-1 in
     let t = mounts_tree a.c a.nodes.now a.mounts.now in
-    let led = into-facts t a.links a.k _ _ pre.3 (sym lead-of.ensures ∙ mount.given.1) in
+    let led = into-facts t a.links a.k _ _ pre.3 (sym lead-of.ensures ∙ c.in-Into.is) in
     omega (arith, led.0, pre.1.whole)
 
 pub climb-requires : goal.climb-requires
@@ -24,9 +23,8 @@ unfolding is_directory
 climb-requires c = let a = c.args in
     let pre = c.requires in
     let lead-of = c.lead_of in
-    let mount = c.mount-1 in
     let t = mounts_tree a.c a.nodes.now a.mounts.now in
-    let led = into-facts t a.links a.k _ _ pre.3 (sym lead-of.ensures ∙ mount.given.1) in
+    let led = into-facts t a.links a.k _ _ pre.3 (sym lead-of.ensures ∙ c.in-Into.is) in
     (pre.0, directories_hold a.c a.nodes.now a.mounts.now [] [] [] [] [] pre.2, led.1)
 
 pub returns-in-Settled : goal.returns-in-Settled

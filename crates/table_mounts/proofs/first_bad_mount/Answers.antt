@@ -25,11 +25,11 @@ lowest d = d.first-broken-below.ensures ∙ ap (broken_from false (tree d) 0) (c
 
 pub first_broken_below-m-requires : goal.first_broken_below-m-requires
 first_broken_below-m-requires c = let p = c.requires in
-    let found = clash-found (tree c) p.1.some in
-    (p.0, p.1, p.2, omega (arith, clash c, found.from), omega (arith, clash c, found.below))
+    let found = clash-found (tree (goal.at.first_broken_below-m-requires c).Start) p.1.some in
+    (p.0, p.1, p.2, omega (arith, clash (goal.at.first_broken_below-m-requires c).After-first_clash, found.from), omega (arith, clash (goal.at.first_broken_below-m-requires c).After-first_clash, found.below))
 
 pub returns-then-m-c : goal.returns-then-m-c
-returns-then-m-c c = sym (ap search_of (rule-some (tree c) c.requires.1.some c.first_broken_below-m.result (lowest c) c.if-m-c.true))
+returns-then-m-c c = sym (ap search_of (rule-some (tree (goal.at.returns-then-m-c c).Start) c.requires.1.some c.first_broken_below-m.result (lowest c) c.if-m-c.true))
 
 pub returns : goal.returns
-returns c = sym (ap search_of (rule-none (tree c) c.requires.1.some c.first_broken_below-m.result (lowest c) (omega arith)))
+returns c = sym (ap search_of (rule-none (tree (goal.at.returns c).Start) c.requires.1.some c.first_broken_below-m.result (lowest c) (omega arith)))

@@ -3,7 +3,6 @@ use Prim.Native.Nat.{ℕ, ◌-◌}
 use mathlib.Core.Bool.{false}
 use mathlib.Core.Path.{◌≡◌, sym, ap, ap₂, ◌∙◌}
 use native.Mathlib.Omega.{arith}
-use borrow.Author.Tests.{not-true, not-false}
 use Rattle.model.specs.Tree.{Tree}
 use Rattle.parts.specs.Parts.{mounts_tree}
 use Rattle.table_leads.specs.Climbs.{budget, unseen_from}
@@ -28,7 +27,7 @@ abbrev start : goal.Else-not-is_settled → goal.Start
 start c = c
 
 passed : (c : goal.Else-not-is_settled) → broken (start c) 0 ≡ broken (start c) 1
-passed c = zeroth-passed _ _ (start c).requires.3 (sym (zeroth c) ∙ not-false _ c.if-not-is_settled.false)
+passed c = zeroth-passed _ _ (start c).requires.3 (sym (zeroth c) ∙ c.if-not-is_settled.false)
 
 -- and so are those before the one where the quick way stops
 seen : (c : goal.After-first_unseen-at) → let d = start c in broken d c.first_unseen-at.result ≡ broken d 0
@@ -42,23 +41,23 @@ seen c =
     ∙ sym (passed c)
 
 pub returns-then-not-is_settled : goal.returns-then-not-is_settled
-returns-then-not-is_settled c = sym (zeroth-broken _ _ c.requires.3 (sym (zeroth c) ∙ not-true _ c.if-not-is_settled.true))
+returns-then-not-is_settled c = sym (zeroth-broken _ _ c.requires.3 (sym (zeroth (goal.at.returns-then-not-is_settled c).After-is_settled) ∙ c.if-not-is_settled.true))
 
 pub returns-then-end-le1 : goal.returns-then-end-le1
-returns-then-end-le1 c = sym (passed c ∙ broken-done false _ 1 _ (omega arith))
+returns-then-end-le1 c = sym (passed (goal.at.returns-then-end-le1 c).Else-not-is_settled ∙ broken-done false _ 1 _ (omega arith))
 
 pub first_unseen-at-requires : goal.first_unseen-at-requires
-first_unseen-at-requires c = let p = (start c).requires in
+first_unseen-at-requires c = let p = (start (goal.at.first_unseen-at-requires c).Else-not-is_settled).requires in
     rw (c.lend.ensures, c.lend-2.ensures) (p.0, p.1, p.2, p.3, p.4)
 
 pub returns-then-end-at : goal.returns-then-end-at
-returns-then-end-at c = sym (sym (seen c) ∙ broken-done false _ c.first_unseen-at.result _ (omega arith))
+returns-then-end-at c = sym (sym (seen (goal.at.returns-then-end-at c).After-first_unseen-at) ∙ broken-done false _ c.first_unseen-at.result _ (omega arith))
 
 pub first_broken-requires : goal.first_broken-requires
-first_broken-requires c = let p = (start c).requires in
+first_broken-requires c = let p = (start (goal.at.first_broken-requires c).Else-not-is_settled).requires in
     rw (c.lend-3.ensures, c.lend-4.ensures) (p.0, p.1, p.2, omega arith, p.4)
 
 pub returns : goal.returns
-returns c = let a = (start c).args in
+returns c = let a = (start (goal.at.returns c).Else-not-is_settled).args in
     let alike = ap₂ (mounts_tree a.c) c.lend-3.ensures c.lend-4.ensures in
-    c.first_broken.ensures ∙ ap (λ (u : Tree). broken_from false u c.first_unseen-at.result a.end) alike ∙ seen c
+    c.first_broken.ensures ∙ ap (λ (u : Tree). broken_from false u c.first_unseen-at.result a.end) alike ∙ seen (goal.at.returns c).After-first_unseen-at

@@ -1,9 +1,14 @@
 -- `table_nodes::node_holds` meets its contract: each arm of the match is the kind's sentence. Assumes nothing.
+use borrow.Author.Rules.{rules}
 use mathlib.Core.Path.{◌∙◌, sym}
 use borrow.Author.Tests.{ne_eqb}
 use Rattle.model.specs.Tree.{kind_in, is_directory}
 use Rattle.model.specs.TableCheck.{directory_count, counts_before, directory_holds, file_holds, magic_holds, node_holds}
 use Rattle.table_nodes.proofs.node_holds.Goals as goal
+
+pub directory_holds-requires : goal.directory_holds-requires
+unfolding counts_before directory_count
+directory_holds-requires c = search rules
 
 pub returns-in-1 : goal.returns-in-1
 unfolding node_holds directory_holds is_directory counts_before directory_count

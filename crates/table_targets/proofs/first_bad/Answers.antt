@@ -39,21 +39,21 @@ whole d =
 pub returns-then-end-from : goal.returns-then-end-from
 returns-then-end-from c = let a = c.args in
     let unsettled = c.first_unsettled-from.ensures ∙ unsettled-alike a.c a.nodes.now a.mounts.now in
-    sym (sym (broken-unsettled (tree c)) ∙ broken-done true (tree c) _ a.c.nodes (omega (arith, unsettled)))
+    sym (sym (broken-unsettled (tree (goal.at.returns-then-end-from c).Start)) ∙ broken-done true (tree (goal.at.returns-then-end-from c).Start) _ a.c.nodes (omega (arith, unsettled)))
 
 pub first_unseen-at-requires : goal.first_unseen-at-requires
 first_unseen-at-requires c = let p = c.requires in
     rw (c.lend.ensures, c.lend-2.ensures) (p.0, p.1, p.2, omega arith, omega arith)
 
 pub returns-then-end-at : goal.returns-then-end-at
-returns-then-end-at c = sym (sym (whole c) ∙ broken-done true (tree (start c)) c.first_unseen-at.result (start c).args.c.nodes (omega arith))
+returns-then-end-at c = sym (sym (whole c) ∙ broken-done true (tree (start (goal.at.returns-then-end-at c).After-first_unseen-at)) c.first_unseen-at.result (start (goal.at.returns-then-end-at c).After-first_unseen-at).args.c.nodes (omega arith))
 
 pub first_broken-requires : goal.first_broken-requires
 first_broken-requires c = let p = c.requires in
     rw (c.lend-3.ensures, c.lend-4.ensures) (p.0, p.1, p.2, omega arith, omega arith)
 
 pub returns : goal.returns
-returns c = let a = (start c).args in
-    let lent : mounts_tree a.c c.lend-3.result.now c.lend-4.result.now ≡ tree (start c) =
+returns c = let a = (start (goal.at.returns c).After-first_unseen-at).args in
+    let lent : mounts_tree a.c c.lend-3.result.now c.lend-4.result.now ≡ tree (start (goal.at.returns c).After-first_unseen-at) =
     ap₂ (mounts_tree a.c) c.lend-3.ensures c.lend-4.ensures in
     c.first_broken.ensures ∙ ap (λ (u : Tree). broken_from true u c.first_unseen-at.result a.c.nodes) lent ∙ whole c

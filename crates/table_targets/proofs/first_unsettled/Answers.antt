@@ -15,11 +15,11 @@ loop-n-init c = let e : c.args.c.nodes - 0 ≡ c.args.c.nodes = omega arith in
 
 pub returns-then-not-is_settled : goal.returns-then-not-is_settled
 returns-then-not-is_settled c = let told = ap not (c.is_settled.ensures ∙ ap settled c.link_lead.ensures) in
-    first-hit c.loop-n.invariant.1 (omega arith) told c.if-not-is_settled.true
+    first-hit c.loop-n.invariant.1 (omega arith) told (ap not c.if-not-is_settled.true)
 
 pub loop-n-preserved : goal.loop-n-preserved
 loop-n-preserved c = let told = ap not (c.is_settled.ensures ∙ ap settled c.link_lead.ensures) in
-    (refl, first-miss c.loop-n.invariant.1 (omega arith) told c.if-not-is_settled.false)
+    (refl, first-miss c.loop-n.invariant.1 (omega arith) told (ap not c.if-not-is_settled.false))
 
 pub returns : goal.returns
 returns c = first-none c.loop-n.invariant.1 (omega arith)

@@ -1,7 +1,7 @@
 -- `table_texts::is_marked` meets its contract. Assumes nothing.
 use Prim.Native.Nat.{◌+◌, ◌/◌}
 use mathlib.Core.Bool.{cond}
-use mathlib.Core.Logic.{⊎_elim, inl, inr}
+use mathlib.Core.Logic.{inl, inr}
 use mathlib.Core.Path.{◌∙◌}
 use native.Mathlib.Omega.{arith}
 use borrow.Author.Tests.{le-leb, lt-leb, lt-ltb, le-ltb}
@@ -9,6 +9,7 @@ use lib.ListN.{length}
 use Rattle.table_texts.specs.Barred.{is_marked}
 use Rattle.table_texts.proofs.RecordLaws.{given}
 use Rattle.table_texts.proofs.is_marked.Goals as goal
+use Rattle.table_texts.proofs.is_marked.Goals.{then-names, else-names}
 
 pub returns-then-text-gt-MOST_MARKED : goal.returns-then-text-gt-MOST_MARKED
 unfolding is_marked
@@ -19,13 +20,13 @@ pub returns-then-many-count : goal.returns-then-many-count
 unfolding is_marked
 returns-then-many-count c = let a = c.args in
     let n = length a.text.now in
-    let many = given a.names (⊎_elim (λ w. inl (w.0.taken, w.1)) (λ w. inr (w.0.left, w.1)) c.if-names.branch) in
+    let many = given a.names (elim c.if-names.branch [ then-names w ↦ inl (w.0.taken, w.1) | else-names w ↦ inr (w.0.left, w.1) ]) in
     rw (le-leb n 65535 (omega arith), lt-ltb (cond a.names (256 + n / 64) (256 + n / 8)) a.count (omega (arith, many)))
 
 pub returns : goal.returns
 unfolding is_marked
 returns c = let a = c.args in
     let n = length a.text.now in
-    let many = given a.names (⊎_elim (λ w. inl (w.0.taken, w.1)) (λ w. inr (w.0.left, w.1)) c.if-names.branch) in
+    let many = given a.names (elim c.if-names.branch [ then-names w ↦ inl (w.0.taken, w.1) | else-names w ↦ inr (w.0.left, w.1) ]) in
     c.longer.ensures
     ∙ rw (le-leb n 65535 (omega arith), le-ltb (cond a.names (256 + n / 64) (256 + n / 8)) a.count (omega (arith, many)))

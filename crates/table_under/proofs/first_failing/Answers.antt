@@ -11,10 +11,10 @@ pub loop-k-init : goal.loop-k-init
 loop-k-init c = broken-start _ _ _ _ (omega arith)
 
 pub returns-then-not-record_keeps : goal.returns-then-not-record_keeps
-returns-then-not-record_keeps c = first-hit c.loop-k.invariant (omega arith) (ap not c.record_keeps.ensures) c.if-not-record_keeps.true
+returns-then-not-record_keeps c = first-hit c.loop-k.invariant (omega arith) (ap not c.record_keeps.ensures) (ap not c.if-not-record_keeps.true)
 
 pub loop-k-preserved : goal.loop-k-preserved
-loop-k-preserved c = first-miss c.loop-k.invariant (omega arith) (ap not c.record_keeps.ensures) c.if-not-record_keeps.false
+loop-k-preserved c = first-miss c.loop-k.invariant (omega arith) (ap not c.record_keeps.ensures) (ap not c.if-not-record_keeps.false)
 
 pub returns : goal.returns
 returns c = first-none c.loop-k.invariant (omega arith)

@@ -1,4 +1,5 @@
 -- `table_under::pass_down` meets its contract. The loop's invariant: what the lists have is what passing the nodes so far leaves. Assumes nothing.
+use borrow.Author.Rules.{rules}
 use Prim.Native.Nat.{ℕ, ◌-◌}
 use mathlib.Core.Path.{sym, ap, subst, ◌∙◌}
 use native.Mathlib.Omega.{arith}
@@ -6,6 +7,10 @@ use Rattle.model.specs.Tree.{parent_in}
 use Rattle.table_under.specs.Rows.{chart, pass_down, Fitting}
 use Rattle.table_under.proofs.NearLaws.{down-more, passed-fitting}
 use Rattle.table_under.proofs.pass_down.Goals as goal
+
+pub loop-n-init : goal.loop-n-init
+unfolding pass_down
+loop-n-init c = search rules
 
 pub loop-n-preserved : goal.loop-n-preserved
 loop-n-preserved c = let a = c.args in
@@ -15,8 +20,8 @@ loop-n-preserved c = let a = c.args in
       omega arith,
       subst Fitting (sym pass-to.ensures) (passed-fitting (parent_in a.nodes.now) l.n l.invariant.1 (omega (arith, p.1, l.invariant.3))),
       down-more _ _ _ l.invariant.2 pass-to.ensures,
-      pass-to.auto.1.0 ∙ l.invariant.3,
-      pass-to.auto.1.1.0 ∙ l.invariant.4,
+      pass-to.auto.near ∙ l.invariant.3,
+      pass-to.auto.rows ∙ l.invariant.4,
     )
 
 pub returns : goal.returns

@@ -16,7 +16,7 @@ copy_row-requires c = let own = c.wide-own.ensures.0 in (
 
 pub set_bit-requires : goal.set_bit-requires
 set_bit-requires c = let own = c.wide-own.ensures.0 in (
-      omega (arith, own_room c.args.n c.requires.2, own, c.copy_row.auto.0),
+      omega (arith, own_room c.args.n c.requires.2, own, c.copy_row.auto.rows),
       omega (arith, c.requires.2.few c.args.n, own),
     )
 

@@ -1,7 +1,6 @@
 -- `call::handle::check_handle` meets its contract. The tests are the definition's, in its order. Assumes nothing.
 use borrow.Author.Rules.{rules}
 use mathlib.Core.Path.{sym, ◌∙◌}
-use borrow.Author.Tests.{not-false}
 use Rattle.laws.proofs.Acceptance.{accepted-sound}
 use Rattle.call.proofs.HandleLaws.{no-mount, no_node, no-directory, not-under, is-covered, is-good}
 use Rattle.call.proofs.handle.check_handle.Goals as goal
@@ -17,7 +16,7 @@ returns-then-not-is_directory c = search (rules, no-directory)
 
 pub is_under-requires : goal.is_under-requires
 is_under-requires c = let sound = accepted-sound c.args.image.now c.requires.1 in
-    (c.requires.0.sized, sound.nodes_hold.directories_hold, sym c.is_directory.ensures ∙ not-false _ c.if-not-is_directory.false)
+    (c.requires.0.sized, sound.nodes_hold.directories_hold, sym c.is_directory.ensures ∙ c.if-not-is_directory.false)
 
 pub returns-then-not-is_under : goal.returns-then-not-is_under
 returns-then-not-is_under c = search (rules, not-under)

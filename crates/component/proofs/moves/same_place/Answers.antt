@@ -1,4 +1,4 @@
--- `component::moves::same_place_lem` meets its contract. Assumes nothing.
+-- `component::moves::same_place` meets its contract. Assumes nothing.
 use borrow.Author.Rules.{rules}
 use Rattle.component.proofs.MoveLaws.{other-mount, one-mount}
 use Rattle.component.proofs.moves.same_place.Goals as goal

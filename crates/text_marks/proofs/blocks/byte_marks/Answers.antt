@@ -1,10 +1,9 @@
 -- `text_marks::blocks::byte_marks` meets its contract. Assumes nothing.
 use mathlib.Core.Path.{sym, ◌∙◌}
-use borrow.Author.Tests.{not-true}
 use Rattle.text_marks.proofs.BlockLaws.{marks-none}
 use Rattle.text_marks.proofs.blocks.byte_marks.Goals as goal
 
 pub returns-then-not-whole_holds : goal.returns-then-not-whole_holds
 returns-then-not-whole_holds c = let a = c.args in
     let holds = c.whole_holds in
-    sym (marks-none a.byte a.text.now a.at 64 c.requires (sym holds.ensures ∙ not-true holds.result c.if-not-whole_holds.true))
+    sym (marks-none a.byte a.text.now a.at 64 c.requires (sym holds.ensures ∙ c.if-not-whole_holds.true))

@@ -1,7 +1,12 @@
 -- `text_marks::blocks::full_marks` meets its contract. The loop's invariant: the bytes from `i` on are marked. Assumes nothing.
 use borrow.Author.Rules.{rules}
+use Rattle.text_marks.specs.Marks.{marks_of}
 use Rattle.text_marks.proofs.BlockLaws.{eight-mul, eight-add, eight-more, eight-all}
 use Rattle.text_marks.proofs.blocks.full_marks.Goals as goal
+
+pub loop-i-init : goal.loop-i-init
+unfolding marks_of
+loop-i-init c = search rules
 
 pub overflow_mul-marks : goal.overflow_mul-marks
 overflow_mul-marks c = search (rules, eight-mul)

@@ -1,6 +1,8 @@
 -- `Walk::step` meets its contract. Assumes nothing.
 use borrow.Author.Rules.{rules}
 use Rattle.walk.proofs.StepLaws.{off-directory, stands_on, next-within, name-begins, name-ends, few-taken, proceeds, stepped}
+use mathlib.Core.Path.{ap}
+use mathlib.Core.Bool.{not}
 use Rattle.walk.proofs.Walk.step.Goals as goal
 
 pub returns-then-not-names : goal.returns-then-not-names
@@ -21,12 +23,12 @@ taken-requires c = search (rules, few-taken)
 pub proceed-requires : goal.proceed-requires
 proceed-requires c = let pre = c.requires in
     proceeds pre.0 pre.1 c.text_of-here.ensures c.next_component-span.ensures
-    c.node_kind.ensures.0 c.names.ensures c.if-not-names.false
+    c.node_kind.ensures.0 c.names.ensures (ap not c.if-not-names.false)
     c.at_end.ensures c.both-last.ensures c.name_of-name.ensures c.take_component-o.ensures c.taken.ensures
 
 pub returns : goal.returns
 returns c = let pre = c.requires in
     stepped pre.0 pre.1 c.text_of-here.ensures c.next_component-span.ensures
-    c.node_kind.ensures.0 c.names.ensures c.if-not-names.false
+    c.node_kind.ensures.0 c.names.ensures (ap not c.if-not-names.false)
     c.at_end.ensures c.both-last.ensures c.name_of-name.ensures c.take_component-o.ensures c.taken.ensures
     c.proceed.ensures
