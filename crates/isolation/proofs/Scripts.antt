@@ -193,14 +193,14 @@ module _ (image image' : List ℕ) (h : Handle) (s : Sharing image image' h) whe
 
   script : (slots : List Slot) (calls : List DescriptorCall) → HeldInside t (place_of h) slots → script_scoped image slots calls ≡ true → SameScript image image' h slots calls
   unfolding replies_to slots_after script_scoped
-  script slots [] all scoped = record { replies = refl; slots_after = refl; inside_after = all }
+  script slots [] all scoped = record { replies = refl; slots_alike = refl; inside_after = all }
   script slots (call ∷ calls) all scoped =
       let b = both _ _ scoped in
       let same = served-alike slots all call b.0 in
       let later = script (serve image slots call).slots calls (served-inside slots all call b.0) b.1 in
       record {
         replies = rw (← same) (ap (λ (rs : List Reply). (serve image slots call).reply ∷ rs) later.replies);
-        slots_after = rw (← same) later.slots_after;
+        slots_alike = rw (← same) later.slots_alike;
         inside_after = later.inside_after;
       }
 

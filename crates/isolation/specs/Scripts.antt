@@ -47,7 +47,7 @@ script_scoped image slots (call ∷ calls) = call_scoped slots call && script_sc
 -- "all replies and the slots at the end are the same in both, and every handle then held is reachable from that one"
 pub record SameScript (image image' : List ℕ) (h : Handle) (slots : List Slot) (calls : List DescriptorCall) : Type 0 where
   pub replies : replies_to image slots calls ≡ replies_to image' slots calls
-  pub slots_after : slots_after image slots calls ≡ slots_after image' slots calls
+  pub slots_alike : slots_after image slots calls ≡ slots_after image' slots calls
   pub inside_after : HeldInside (tree_of image) (place_of h) (slots_after image slots calls)
 
 abbrev pub ScriptsAlike : Type 0

@@ -12,6 +12,7 @@ pub loop-i-preserved : goal.loop-i-preserved
 loop-i-preserved c = (
   elim c.if-s-i-eq0.branch [ then-s-i-eq0 w ↦ search (rules, seen-hit) | else-s-i-eq0 w ↦ search (rules, seen-miss) ],
   elim c.if-s-i-eq47.branch [ then-s-i-eq47 w ↦ search (rules, seen-hit) | else-s-i-eq47 w ↦ search (rules, seen-miss) ],
+)
 
 pub returns-then-zero : goal.returns-then-zero
 unfolding holds_barred

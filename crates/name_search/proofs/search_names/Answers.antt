@@ -1,24 +1,12 @@
 -- `name_search::search_names` meets its contract. The loop's invariant: the search is that of the names left, so many having been compared. Assumes nothing.
 use Prim.Native.Nat.{◌+◌, ◌-◌, ◌/◌}
-use mathlib.Core.Path.{◌≡◌, refl, ap, ◌∙◌}
+use mathlib.Core.Path.{refl, ap, ◌∙◌}
 use native.Mathlib.Omega.{arith}
-use Rattle.model.specs.Tree.{tree_of}
 use Rattle.laws.proofs.Acceptance.{accepted-sound}
 use Rattle.laws.proofs.HalvingLaws.{halves-all, halves-found, halves-earlier, halves-later, halves-none}
-use Rattle.string_order.specs.Orders.{ordered}
 use Rattle.name_search.specs.Halvings.{halving_of}
 use Rattle.name_search.proofs.NameLaws.{common-within, node-inside, entries-few, name_inside, told_same, told-before, told-after, skip-fits, compared_whole}
 use Rattle.name_search.proofs.search_names.Goals as goal
-
--- what the comparison told, of the whole names
-told : (c : goal.After-compare-order)
-    → c.compare-order.result ≡ ordered c.args.wanted.now ((tree_of c.args.image.now).name (c.loop-left.from + (c.loop-left.left - 1) / 2))
-told c =
-    let loop = c.loop-left in
-    c.compare-order.ensures
-    ∙ compared_whole _ _ c.requires.1 c.requires.2 _ c.type_inv.image
-    c.type_inv.wanted (loop.from + (loop.left - 1) / 2)
-    c.in_common-skip.ensures (omega arith) (omega arith) c.name-s.ensures
 
 pub slice_bounds-rest-count : goal.slice_bounds-rest-count
 slice_bounds-rest-count c = omega (arith, c.in_common-skip.ensures, common-within _ (accepted-sound _ c.requires.1) _ c.requires.2 c.args.wanted.now)
@@ -61,15 +49,26 @@ slice_bounds-compare-start c = let loop = c.loop-left in
     c.in_common-skip.ensures (omega arith) (omega arith) c.name-s.ensures
 
 pub returns-in-Same : goal.returns-in-Same
-returns-in-Same c = ap halving_of (halves-found c.loop-left.invariant.3 c.loop-left-test.true refl (told_same _ _ (told c) c.in-Same.is))
+returns-in-Same c =
+    let loop = c.loop-left in
+    let told =
+        c.compare-order.ensures
+        ∙ compared_whole _ _ c.requires.1 c.requires.2 _ c.type_inv.image c.type_inv.wanted (loop.from + (loop.left - 1) / 2)
+        c.in_common-skip.ensures (omega arith) (omega arith) c.name-s.ensures in
+    ap halving_of (halves-found loop.invariant.3 c.loop-left-test.true refl (told_same _ _ told c.in-Same.is))
 
 pub loop-left-smaller-in-Before : goal.loop-left-smaller-in-Before
 loop-left-smaller-in-Before c = omega arith
 
 pub loop-left-preserved-in-Before : goal.loop-left-preserved-in-Before
-loop-left-preserved-in-Before c = let inv = c.loop-left.invariant in
-    let tell = told-before _ _ (told c) c.in-Before.is in
-    (inv.0, omega arith, omega arith, halves-earlier inv.3 c.loop-left-test.true refl tell.0 tell.1)
+loop-left-preserved-in-Before c =
+    let loop = c.loop-left in
+    let told =
+        c.compare-order.ensures
+        ∙ compared_whole _ _ c.requires.1 c.requires.2 _ c.type_inv.image c.type_inv.wanted (loop.from + (loop.left - 1) / 2)
+        c.in_common-skip.ensures (omega arith) (omega arith) c.name-s.ensures in
+    let tell = told-before _ _ told c.in-Before.is in
+    (loop.invariant.0, omega arith, omega arith, halves-earlier loop.invariant.3 c.loop-left-test.true refl tell.0 tell.1)
 
 pub overflow_add-from : goal.overflow_add-from
 overflow_add-from c = let pre = c.requires in
@@ -79,8 +78,14 @@ pub loop-left-smaller : goal.loop-left-smaller
 loop-left-smaller c = omega arith
 
 pub loop-left-preserved : goal.loop-left-preserved
-loop-left-preserved c = let tell = told-after _ _ (told c) c.in-After.is in
-    (omega arith, omega arith, omega arith, halves-later c.loop-left.invariant.3 c.loop-left-test.true refl tell.0 tell.1)
+loop-left-preserved c =
+    let loop = c.loop-left in
+    let told =
+        c.compare-order.ensures
+        ∙ compared_whole _ _ c.requires.1 c.requires.2 _ c.type_inv.image c.type_inv.wanted (loop.from + (loop.left - 1) / 2)
+        c.in_common-skip.ensures (omega arith) (omega arith) c.name-s.ensures in
+    let tell = told-after _ _ told c.in-After.is in
+    (omega arith, omega arith, omega arith, halves-later loop.invariant.3 c.loop-left-test.true refl tell.0 tell.1)
 
 pub returns : goal.returns
 returns c = ap halving_of (halves-none c.loop-left.invariant.3 (omega arith))

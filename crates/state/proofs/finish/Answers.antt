@@ -2,6 +2,7 @@
 use borrow.Author.Rules.{rules}
 use Rattle.state.proofs.EndLaws.{end-directory, required-file, required-other, end-file, end_below, end-above, end-link-path, end-link}
 use Rattle.state.proofs.finish.Goals as goal
+use Rattle.state.proofs.finish.Goals.{in_default-via-then-kind-lt1, in_default-via-else-kind-lt1+else-kind-lt5}
 
 pub returns-then-s : goal.returns-then-s
 returns-then-s c = search (rules, required-file)
@@ -25,4 +26,8 @@ pub returns-else-k : goal.returns-else-k
 returns-else-k c = search (rules, end-link)
 
 pub returns-else-s-3 : goal.returns-else-s-3
-returns-else-s-3 c = ⊎-elim (λ w. search (rules, end_below)) (λ w. search (rules, end-above)) c.in_default.branch
+returns-else-s-3 c =
+    elim c.in_default.branch [
+        in_default-via-then-kind-lt1 w ↦ search (rules, end_below)
+        | in_default-via-else-kind-lt1+else-kind-lt5 w ↦ search (rules, end-above)
+    ]
