@@ -153,4 +153,4 @@ module _ (image : List ℕ) (k : Request) (p : Place) where
 
         pub up-open : {r : Outcome} → scope ≡ false → r ≡ Up → r ≡ Gone
         unfolding go_up forbid_any forbids row first_set
-        up-open e u = u ∙ rw (sym here-is ∙ not-false _ at-handle, unmarked, sym scope-is ∙ e)
+        up-open e u = u ∙ simp (sym here-is ∙ not-false _ at-handle, unmarked, sym scope-is ∙ e)

@@ -6,7 +6,7 @@ use Rattle.text_marks.proofs.MarkLaws.{first-in-block}
 use Rattle.text_marks.proofs.next_barred.Goals as goal
 
 pub returns : goal.returns
-returns c = let at = c.args.at in
+returns c names text marked inside = let at = c.args.at in
     let b = at / 64 in
     let is = c.wide.ensures.0 ∙ marked.all.later b (omega arith) (omega arith) in
     let bits = ap (λ (x : ℕ). x / 2 ^ (at % 64)) (marked.all.block b (omega arith) (omega arith)) in
