@@ -4,7 +4,7 @@ use Prim.Native.Nat.{◌≤◌, ◌-◌}
 use Rattle.cases.proofs.print_seven.Given as goal
 
 abbrev pub invariant-loop-i : goal.invariant-loop-i
-invariant-loop-i l = i ≤ 7
+invariant-loop-i l = l.i ≤ 7
 
 abbrev pub decreases-loop-i : goal.decreases-loop-i
-decreases-loop-i l = 7 - i
+decreases-loop-i l = 7 - l.i

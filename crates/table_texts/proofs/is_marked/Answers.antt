@@ -20,13 +20,13 @@ pub returns-then-many-count : goal.returns-then-many-count
 unfolding is_marked
 returns-then-many-count c = let a = c.args in
     let n = length a.text.now in
-    let many = given a.names (elim c.if-names.branch [ then-names w ↦ inl (w.0.taken, w.1) | else-names w ↦ inr (w.0.left, w.1) ]) in
+    let many = given a.names (elim c.if-names.branch [ then-names w ↦ inl (w.if-names.true, w.many-is) | else-names w ↦ inr (w.if-names.false, w.many-is) ]) in
     rw (le-leb n 65535 (omega arith), lt-ltb (cond a.names (256 + n / 64) (256 + n / 8)) a.count (omega (arith, many)))
 
 pub returns : goal.returns
 unfolding is_marked
 returns c = let a = c.args in
     let n = length a.text.now in
-    let many = given a.names (elim c.if-names.branch [ then-names w ↦ inl (w.0.taken, w.1) | else-names w ↦ inr (w.0.left, w.1) ]) in
+    let many = given a.names (elim c.if-names.branch [ then-names w ↦ inl (w.if-names.true, w.many-is) | else-names w ↦ inr (w.if-names.false, w.many-is) ]) in
     c.longer.ensures
     ∙ rw (le-leb n 65535 (omega arith), le-ltb (cond a.names (256 + n / 64) (256 + n / 8)) a.count (omega (arith, many)))

@@ -15,12 +15,12 @@ pub returns-then-count-many : goal.returns-then-count-many
 unfolding seen_clean
 returns-then-count-many c = let a = c.args in
     let n = length a.text.now in
-    let many = given a.names (elim c.if-names.branch [ then-names w ↦ inl (w.0.taken, w.1) | else-names w ↦ inr (w.0.left, w.1) ]) in
+    let many = given a.names (elim c.if-names.branch [ then-names w ↦ inl (w.if-names.true, w.many-is) | else-names w ↦ inr (w.if-names.false, w.many-is) ]) in
     rw (lt-leb (cond a.names (16 + n / 64) (4 + n / 32)) a.count (omega (arith, many)))
 
 pub returns : goal.returns
 unfolding seen_clean
 returns c = let a = c.args in
     let n = length a.text.now in
-    let many = given a.names (elim c.if-names.branch [ then-names w ↦ inl (w.0.taken, w.1) | else-names w ↦ inr (w.0.left, w.1) ]) in
+    let many = given a.names (elim c.if-names.branch [ then-names w ↦ inl (w.if-names.true, w.many-is) | else-names w ↦ inr (w.if-names.false, w.many-is) ]) in
     ap not c.holds_barred.ensures ∙ rw (le-leb (cond a.names (16 + n / 64) (4 + n / 32)) a.count (omega (arith, many)))
