@@ -125,4 +125,4 @@ module _ (s path : List ℕ) (k : Request) (directory : Bool) {slash : Bool} (sl
 
       pub from-root : {r : Answer} → scope ≡ false → r ≡ answer (restrictions_for k) (begin_at (request_for s k) directory path k.root) → r ≡ Walked
       unfolding walk_path answer forbids row first_set
-      from-root e is = is ∙ rw (sym slash-is ∙ not-false _ rooted, unmarked, sym scope-is ∙ e)
+      from-root e is = is ∙ simp (sym slash-is ∙ not-false _ rooted, unmarked, sym scope-is ∙ e)

@@ -1,6 +1,6 @@
-// The C interface: pointers with lengths and numbers in, the answer as numbers into a lent array. A lent array that is too short is
-// left as it was, and 0 is returned; else it is how many numbers were written. All else that is lent stays as it was, but for the 64 slots
-// of a descriptor table, which a call that is not refused may change.
+// The C interface, which `ventolaire_c` exports: pointers with lengths and numbers in, the answer as numbers into a lent array. A lent
+// array that is too short is left as it was, and 0 is returned; else it is how many numbers were written. All else that is lent stays as
+// it was, but for the 64 slots of a descriptor table, which a call that is not refused may change.
 #![tactic(auto)]
 
 ghost use Rattle.std.specs.Prelude.{List, ◌≡◌, ℕ, length};
@@ -23,8 +23,7 @@ use slots::DESCRIPTORS;
 use table::check;
 
 // The table check: rule (0: accepted) and record.
-#[unsafe(no_mangle)]
-pub extern "C" fn ventolaire_check(image: &[u8], out: &mut [u64]) -> usize
+pub fn ventolaire_check(image: &[u8], out: &mut [u64]) -> usize
     ensures { Writes (verdict_numbers (table_check image.now)) out.old out.new result × (image.now ≡ image.now) }
 {
     if out.len() < 2 {
@@ -35,8 +34,7 @@ pub extern "C" fn ventolaire_check(image: &[u8], out: &mut [u64]) -> usize
 }
 
 // The resolver: error number (0: found), detail, mount, node, components, links.
-#[unsafe(no_mangle)]
-pub extern "C" fn ventolaire_resolve<'a>(
+pub fn ventolaire_resolve<'a>(
     image: &'a [u8],
     mount: u64,
     node: u64,
@@ -61,8 +59,7 @@ pub extern "C" fn ventolaire_resolve<'a>(
 }
 
 // The resolver for an image that `ventolaire_check` accepted and that has not changed since: the same answer without the table check.
-#[unsafe(no_mangle)]
-pub extern "C" fn ventolaire_resolve_accepted<'a>(
+pub fn ventolaire_resolve_accepted<'a>(
     image: &'a [u8],
     mount: u64,
     node: u64,
@@ -88,8 +85,7 @@ pub extern "C" fn ventolaire_resolve_accepted<'a>(
 }
 
 // A name looked up in one directory: error number (0: found), entry, node, names compared.
-#[unsafe(no_mangle)]
-pub extern "C" fn ventolaire_lookup(image: &[u8], node: u64, name: &[u8], out: &mut [u64]) -> usize
+pub fn ventolaire_lookup(image: &[u8], node: u64, name: &[u8], out: &mut [u64]) -> usize
     ensures { WritesLookup image.now node name.now image.now name.now out.old out.new result }
 {
     if out.len() < 4 {
@@ -100,13 +96,7 @@ pub extern "C" fn ventolaire_lookup(image: &[u8], node: u64, name: &[u8], out: &
 }
 
 // The same in an image that `ventolaire_check` accepted and that has not changed since, without the table check.
-#[unsafe(no_mangle)]
-pub extern "C" fn ventolaire_lookup_accepted(
-    image: &[u8],
-    node: u64,
-    name: &[u8],
-    out: &mut [u64],
-) -> usize
+pub fn ventolaire_lookup_accepted(image: &[u8], node: u64, name: &[u8], out: &mut [u64]) -> usize
     requires { table_check image.now ≡ Accepted }
     ensures { WritesLookup image.now node name.now image.now name.now out.old out.new result }
 {
@@ -118,8 +108,7 @@ pub extern "C" fn ventolaire_lookup_accepted(
 }
 
 // Writes the image of four parts: error number (0: written), rule, record, bytes.
-#[unsafe(no_mangle)]
-pub extern "C" fn ventolaire_build(
+pub fn ventolaire_build(
     nodes: &[u8],
     mounts: &[u8],
     entries: &[u8],
@@ -141,8 +130,7 @@ pub extern "C" fn ventolaire_build(
 
 // The numbers of the errnos, in the order in which they are declared. An array with room for the first
 // eleven alone gets these, and one with room for the first nine alone gets those.
-#[unsafe(no_mangle)]
-pub extern "C" fn ventolaire_errnos(out: &mut [u64]) -> usize
+pub fn ventolaire_errnos(out: &mut [u64]) -> usize
     ensures { Writes (errnos_for (length out.old)) out.old out.new result }
 {
     let room = out.len();
@@ -171,12 +159,7 @@ pub extern "C" fn ventolaire_errnos(out: &mut [u64]) -> usize
 }
 
 // Descriptors as they start, and the table check's verdict.
-#[unsafe(no_mangle)]
-pub extern "C" fn ventolaire_start(
-    image: &[u8],
-    slots: &mut [u64; DESCRIPTORS],
-    out: &mut [u64],
-) -> usize
+pub fn ventolaire_start(image: &[u8], slots: &mut [u64; DESCRIPTORS], out: &mut [u64]) -> usize
     ensures { WritesStart image.now slots.old slots.new out.old out.new result × (image.now ≡ image.now) }
 {
     if out.len() <= 1 {
@@ -187,8 +170,7 @@ pub extern "C" fn ventolaire_start(
 }
 
 // Descriptors as they start, over an image that `ventolaire_check` accepted and that has not changed since.
-#[unsafe(no_mangle)]
-pub extern "C" fn ventolaire_start_accepted(image: &[u8], slots: &mut [u64; DESCRIPTORS])
+pub fn ventolaire_start_accepted(image: &[u8], slots: &mut [u64; DESCRIPTORS])
     requires { table_check image.now ≡ Accepted }
     ensures { (slots_by slots.new ≡ start image.now) × (image.now ≡ image.now) }
 {
@@ -196,8 +178,7 @@ pub extern "C" fn ventolaire_start_accepted(image: &[u8], slots: &mut [u64; DESC
 }
 
 // Opens a path from a descriptor: the answer's numbers, then the number given.
-#[unsafe(no_mangle)]
-pub extern "C" fn ventolaire_open<'a>(
+pub fn ventolaire_open<'a>(
     image: &'a [u8],
     slots: &mut [u64; DESCRIPTORS],
     number: u64,
@@ -218,8 +199,7 @@ pub extern "C" fn ventolaire_open<'a>(
 }
 
 // The same in an image that `ventolaire_check` accepted and that has not changed since, without the table check.
-#[unsafe(no_mangle)]
-pub extern "C" fn ventolaire_open_accepted<'a>(
+pub fn ventolaire_open_accepted<'a>(
     image: &'a [u8],
     slots: &mut [u64; DESCRIPTORS],
     number: u64,
@@ -244,12 +224,7 @@ pub extern "C" fn ventolaire_open_accepted<'a>(
 }
 
 // Duplicates a descriptor. No table is read.
-#[unsafe(no_mangle)]
-pub extern "C" fn ventolaire_dup(
-    slots: &mut [u64; DESCRIPTORS],
-    number: u64,
-    out: &mut [u64],
-) -> usize
+pub fn ventolaire_dup(slots: &mut [u64; DESCRIPTORS], number: u64, out: &mut [u64]) -> usize
     ensures { (image : List ℕ) → WritesReply (serve image (slots_by slots.old) (duplicate number))
         slots.old slots.new out.old out.new result }
 {
@@ -261,12 +236,7 @@ pub extern "C" fn ventolaire_dup(
 }
 
 // Closes a descriptor. No table is read.
-#[unsafe(no_mangle)]
-pub extern "C" fn ventolaire_close(
-    slots: &mut [u64; DESCRIPTORS],
-    number: u64,
-    out: &mut [u64],
-) -> usize
+pub fn ventolaire_close(slots: &mut [u64; DESCRIPTORS], number: u64, out: &mut [u64]) -> usize
     ensures { (image : List ℕ) → WritesReply (serve image (slots_by slots.old) (close number))
         slots.old slots.new out.old out.new result }
 {
@@ -278,8 +248,7 @@ pub extern "C" fn ventolaire_close(
 }
 
 // Marks a descriptor.
-#[unsafe(no_mangle)]
-pub extern "C" fn ventolaire_set_mark(
+pub fn ventolaire_set_mark(
     image: &[u8],
     slots: &mut [u64; DESCRIPTORS],
     number: u64,

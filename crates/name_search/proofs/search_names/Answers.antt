@@ -52,9 +52,9 @@ pub returns-in-Same : goal.returns-in-Same
 returns-in-Same c =
     let loop = c.loop-left in
     let told =
-        c.compare-order.ensures
-        ∙ compared_whole _ _ c.requires.1 c.requires.2 _ c.type_inv.image c.type_inv.wanted (loop.from + (loop.left - 1) / 2)
-        c.in_common-skip.ensures (omega arith) (omega arith) c.name-s.ensures in
+    c.compare-order.ensures
+    ∙ compared_whole _ _ c.requires.1 c.requires.2 _ c.type_inv.image c.type_inv.wanted (loop.from + (loop.left - 1) / 2)
+    c.in_common-skip.ensures (omega arith) (omega arith) c.name-s.ensures in
     ap halving_of (halves-found loop.invariant.3 c.loop-left-test.true refl (told_same _ _ told c.in-Same.is))
 
 pub loop-left-smaller-in-Before : goal.loop-left-smaller-in-Before
@@ -64,9 +64,9 @@ pub loop-left-preserved-in-Before : goal.loop-left-preserved-in-Before
 loop-left-preserved-in-Before c =
     let loop = c.loop-left in
     let told =
-        c.compare-order.ensures
-        ∙ compared_whole _ _ c.requires.1 c.requires.2 _ c.type_inv.image c.type_inv.wanted (loop.from + (loop.left - 1) / 2)
-        c.in_common-skip.ensures (omega arith) (omega arith) c.name-s.ensures in
+    c.compare-order.ensures
+    ∙ compared_whole _ _ c.requires.1 c.requires.2 _ c.type_inv.image c.type_inv.wanted (loop.from + (loop.left - 1) / 2)
+    c.in_common-skip.ensures (omega arith) (omega arith) c.name-s.ensures in
     let tell = told-before _ _ told c.in-Before.is in
     (loop.invariant.0, omega arith, omega arith, halves-earlier loop.invariant.3 c.loop-left-test.true refl tell.0 tell.1)
 
@@ -81,9 +81,9 @@ pub loop-left-preserved : goal.loop-left-preserved
 loop-left-preserved c =
     let loop = c.loop-left in
     let told =
-        c.compare-order.ensures
-        ∙ compared_whole _ _ c.requires.1 c.requires.2 _ c.type_inv.image c.type_inv.wanted (loop.from + (loop.left - 1) / 2)
-        c.in_common-skip.ensures (omega arith) (omega arith) c.name-s.ensures in
+    c.compare-order.ensures
+    ∙ compared_whole _ _ c.requires.1 c.requires.2 _ c.type_inv.image c.type_inv.wanted (loop.from + (loop.left - 1) / 2)
+    c.in_common-skip.ensures (omega arith) (omega arith) c.name-s.ensures in
     let tell = told-after _ _ told c.in-After.is in
     (omega arith, omega arith, omega arith, halves-later loop.invariant.3 c.loop-left-test.true refl tell.0 tell.1)
 

@@ -33,12 +33,12 @@ loop-i-preserved c = let args = c.args in
     let i = loop.i in
     let test : ℕ → Bool = λ k. not (eqb (get_or s k 0) 0) in
     elim c.if-how-i-ne0.branch [
-        then-how-i-ne0 w ↦
-            loop.invariant
-            ∙ any-hit test i (length s) loop.set loop-test.true (ap not (ne_eqb (get_or s i 0) 0 w.if-how-i-ne0.true)) ∙ rw w.set-is
-        | else-how-i-ne0 w ↦
-            loop.invariant
-            ∙ any-miss test i (length s) loop.set loop-test.true (ap not (eq-eqb (get_or s i 0) 0 w.if-how-i-ne0.false)) ∙ rw w.set-is
+      | then-how-i-ne0 w ↦
+          loop.invariant
+          ∙ any-hit test i (length s) loop.set loop-test.true (ap not (ne_eqb (get_or s i 0) 0 w.if-how-i-ne0.true)) ∙ rw w.set-is
+      | else-how-i-ne0 w ↦
+          loop.invariant
+          ∙ any-miss test i (length s) loop.set loop-test.true (ap not (eq-eqb (get_or s i 0) 0 w.if-how-i-ne0.false)) ∙ rw w.set-is
     ]
 
 pub returns : goal.returns

@@ -28,6 +28,6 @@ returns-else-k c = search (rules, end-link)
 pub returns-else-s-3 : goal.returns-else-s-3
 returns-else-s-3 c =
     elim c.in_default.branch [
-        in_default-via-then-kind-lt1 w ↦ search (rules, end_below)
-        | in_default-via-else-kind-lt1+else-kind-lt5 w ↦ search (rules, end-above)
+      | in_default-via-then-kind-lt1 w ↦ search (rules, end_below)
+      | in_default-via-else-kind-lt1+else-kind-lt5 w ↦ search (rules, end-above)
     ]

@@ -10,15 +10,15 @@ returns-then-own-eq0 c = pass_on _ _ _ _ c.row_above-above.ensures c.wide-own.en
 
 pub copy_row-requires : goal.copy_row-requires
 copy_row-requires c = let own = c.wide-own.ensures.0 in (
-      omega (arith, above-room (parent_in c.args.nodes.now) c.args.n c.requires.2, c.row_above-above.ensures, c.wide.ensures.0),
-      omega (arith, own_room c.args.n c.requires.2, own),
-    )
+  omega (arith, above-room (parent_in c.args.nodes.now) c.args.n c.requires.2, c.row_above-above.ensures, c.wide.ensures.0),
+  omega (arith, own_room c.args.n c.requires.2, own),
+)
 
 pub set_bit-requires : goal.set_bit-requires
 set_bit-requires c = let own = c.wide-own.ensures.0 in (
-      omega (arith, own_room c.args.n c.requires.2, own, c.copy_row.auto.rows),
-      omega (arith, c.requires.2.few c.args.n, own),
-    )
+  omega (arith, own_room c.args.n c.requires.2, own, c.copy_row.auto.rows),
+  omega (arith, c.requires.2.few c.args.n, own),
+)
 
 pub returns : goal.returns
 returns c = let row-above = c.row_above-above in
