@@ -17,4 +17,4 @@ pub loop-i-preserved : goal.loop-i-preserved
 loop-i-preserved c = let loop = c.loop-i in (search rules, loop.invariant.1, loop.invariant.2, below_more _ _ loop.invariant.3 c.if-a-i.false)
 
 pub returns : goal.returns
-returns c e = ext_get_or 0 c.args.t1 c.args.t2 (cc) (λ i l. c.loop-i.invariant.3 i (omega arith))
+returns c e = ext_get_or 0 c.args.a c.args.b (cc) (λ i l. c.loop-i.invariant.3 i (omega arith))
