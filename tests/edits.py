@@ -9,7 +9,8 @@ def said(edit):
 def make(folder, edit):
     """Makes an edit in a folder. A file that is not there is left out: a copy may have no proofs."""
     for line in edit.read_text().splitlines():
-        key, _, value = line.partition(": ")
+        key, _, value = line.partition(":")
+        value = value.removeprefix(" ")
         if key == "file":
             file = folder / value
         elif key == "old":

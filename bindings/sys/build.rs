@@ -1,5 +1,5 @@
 //! Finds libventolaire.a: in the folder that VENTOLAIRE_LIB names, else in
-//! target/staticlib of a folder above this one, where `rt staticlib` puts it.
+//! target/staticlib of a folder above this one, where `./build-library` puts it.
 //!
 //! With neither there is a warning and no error: the documentation, and a check
 //! of the types, need no library. A program that is linked without it fails with

@@ -163,19 +163,19 @@ def rust_image(text, folder):
 
 def proofs_calls(text):
     """The calls of the theorem in model/proofs."""
-    table = text.partition("\nworkedTable =\n")[2].partition("[]")[0]
-    for kind, path, rest, answer in re.findall(r'(call|markedCall) "([^"]*)" (.*) \(((?:at|error) [^()]*)\)', table):
-        words = [word.replace("-", "_") for word in re.findall(r"[A-Z][A-Z-]+", rest)]
+    table = text.partition("\nworked_table =\n")[2].partition("[]")[0]
+    for kind, path, rest, answer in re.findall(r'(call|marked_call) "([^"]*)" (.*) \(((?:at|error) [^()]*)\)', table):
+        words = re.findall(r"[A-Z][A-Z_]+", rest)
         first, *numbers = answer.split()[1:]
         place = f"({first},{numbers[0]})" if answer.startswith("at") else first.upper()
-        yield _call(path, kind == "markedCall", words, f"{place}; {','.join(numbers[-2:])}")
+        yield _call(path, kind == "marked_call", words, f"{place}; {','.join(numbers[-2:])}")
 
 
 def proofs_image(text, name="bench"):
     """The bytes of the theorem's image, which has its text in another order."""
     told = re.search(rf"^{name} =(.*?)\n\n", text, re.M | re.S)
     image = b""
-    for digits, letters, part in re.findall(r'hex "([^"]*)"|ascii "([^"]*)"|\b(bench[A-Z]\w+)', told[1] if told else ""):
+    for digits, letters, part in re.findall(r'hex "([^"]*)"|ascii "([^"]*)"|\b(bench_\w+)', told[1] if told else ""):
         image += proofs_image(text, part) if part else bytes.fromhex(digits) + letters.encode()
     return image
 

@@ -43,11 +43,11 @@ module _ {t : Tree} {h : Place} (R : Restrictions) where
 
   module _ (on on' : State → Trace) (later later' : List Component → State → Trace)
       (goes_on : (s : State) → Standing t h s.place → Traces t h R (on s) (on' s))
-      (Goes-later : (cs : List Component) (s : State) → Standing t h s.place → Traces t h R (later cs s) (later' cs s)) where
+      (goes-later : (cs : List Component) (s : State) → Standing t h s.place → Traces t h R (later cs s) (later' cs s)) where
     turned-alike : (x : Turn) → Inward t h x → Traces t h R (turned on later x) (turned on' later' x)
     turned-alike (refuses e s) i = refusing e s.progress
     turned-alike (went s) i = on-from i.reached (goes_on s i)
-    turned-alike (followed cs s) i = on-from i.reached (Goes-later cs s i)
+    turned-alike (followed cs s) i = on-from i.reached (goes-later cs s i)
 
     traced-alike : (x y : Transition) → Alike t h R x y → Traces t h R (traced on later x) (traced on' later' y)
     traced-alike x y k =

@@ -1,18 +1,18 @@
 -- Laws of the bytewise order: it is strict, it goes on from one string to the next, and of two strings that differ one comes first. Assumes
 -- nothing.
 use Prim.Native.Nat.{ℕ, zero, suc, ◌≤◌, ◌<◌}
-use mathlib.Core.Bool.{Bool, true, false, ◌&&◌, ◌||◌, true≢false, false≢true}
+use mathlib.Core.Bool.{Bool, true, false, ◌&&◌, true≢false, false≢true}
 use mathlib.Core.List.{List, [], ◌∷◌}
 use mathlib.Core.Logic.{◌⊎◌, inl, inr, ⊎_elim}
 use mathlib.Core.Path.{◌≡◌, refl, sym, ap, ◌∙◌}
 use native.Mathlib.Nat.{eq-or-lt_of_le}
 use native.Mathlib.Omega.{arith}
-use borrow.Author.Tests.{eq-eqb, ne_eqb, eqb-true, eqb-false, lt-ltb, le-ltb, ltb-true, ltb-false}
-use lib.Dec.{eqb, ltb}
+use borrow.Author.Tests.{eq-eqb, ne_eqb, eqb-true, eqb-false, lt-ltb, le-ltb}
+use lib.Dec.{eqb}
 use lib.ListN.{length, get_or}
 use Rattle.model.specs.Bytes.{same_bytes, before}
-use Rattle.laws.proofs.Cases.{both, below_or}
-use Rattle.laws.proofs.StringLaws.{same-equal, equal-same}
+use Rattle.laws.proofs.Cases.{below_or}
+use Rattle.laws.proofs.StringLaws.{same-equal}
 
 -- two strings by their first bytes
 module _ (x y : ℕ) (s t : List ℕ) where

@@ -1,24 +1,21 @@
 -- Laws of the search by halving: one turn of it, that it finds what a search name by name finds where names ascend, and that it compares no more
 -- names than their number has binary digits. Assumes nothing.
-use Prim.Native.Nat.{ℕ, zero, suc, ◌+◌, ◌-◌, ◌*◌, ◌/◌, ◌≤◌, ◌<◌}
+use Prim.Native.Nat.{ℕ, zero, suc, ◌+◌, ◌-◌, ◌/◌, ◌≤◌, ◌<◌}
 use mathlib.Core.Bool.{Bool, true, false, cond, true≢false}
 use mathlib.Core.List.{List}
 use mathlib.Core.Logic.{⊎_elim}
 use mathlib.Core.Option.{Option, none, some}
-use mathlib.Core.Path.{◌≡◌, refl, sym, ap, ap₂, ◌∙◌, subst}
+use mathlib.Core.Path.{◌≡◌, refl, sym, ap, ap₂, ◌∙◌}
 use native.Mathlib.Nat.{eq-or-lt_of_le}
 use native.Mathlib.Omega.{arith}
 use Rattle.model.specs.Bytes.{same_bytes, before, find, or_else}
-use Rattle.model.specs.Tree.{Tree, tree_of, is_directory, lookup}
-use Rattle.model.specs.TableCheck.{table_check}
+use Rattle.model.specs.Tree.{Tree, is_directory, lookup}
 use Rattle.model.specs.Halving.{Halved, ended, after, halve_within, halving, digits_within, binary_digits}
-use Rattle.model.specs.declared.Verdict.TheVariants.{Accepted}
 use Rattle.laws.specs.Held.{Held}
 use Rattle.laws.specs.Acceptance.{Sound}
-use Rattle.laws.proofs.Acceptance.{accepted-sound, entries-inside, entry-facts}
-use Rattle.laws.proofs.BeforeLaws.{before_self, before-next-but-one, before-other, before-either, same-around}
+use Rattle.laws.proofs.Acceptance.{entries-inside, entry-facts}
+use Rattle.laws.proofs.BeforeLaws.{before_self, before-next-but-one, before-other, same-around}
 use Rattle.laws.proofs.ByteLaws.{find_absent, find-append, find-here, find-later}
-use Rattle.laws.proofs.Cases.{cond_cases, below_or}
 use Rattle.laws.proofs.EntryLaws.{later-ascends}
 use Rattle.laws.proofs.StringLaws.{same-equal}
 

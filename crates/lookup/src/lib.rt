@@ -21,7 +21,7 @@ fn miss(errno: Errno, compared: usize) -> Lookup
 // The answer over a table that was accepted before, for a caller who checked it once.
 pub fn lookup_accepted(image: &[u8], node: usize, name: &[u8]) -> Lookup
     requires { table_check image.now ≡ Accepted }
-    ensures { (result ≡ lookup_name image.now node name.now) × (image.now ≡ image.now) × (name.now ≡ name.now) }
+    ensures { (result ≡ lookup_name image.now node name.now) × (image.exit.now ≡ image.entry.now) × (name.exit.now ≡ name.entry.now) }
 {
     let c = read_counts(image);
     if c.nodes <= node {
@@ -44,7 +44,7 @@ pub fn lookup_accepted(image: &[u8], node: usize, name: &[u8]) -> Lookup
 
 // The answer, for any bytes and any number.
 pub fn lookup(image: &[u8], node: usize, name: &[u8]) -> Lookup
-    ensures { (result ≡ lookup_name image.now node name.now) × (image.now ≡ image.now) × (name.now ≡ name.now) }
+    ensures { (result ≡ lookup_name image.now node name.now) × (image.exit.now ≡ image.entry.now) × (name.exit.now ≡ name.entry.now) }
 {
     let verdict = check(image);
     match verdict {

@@ -1,9 +1,9 @@
 -- Scripts of descriptor calls (RULES 17) with the reply to each, over the bench tree and images made of it.
-use Prim.Native.Nat.{ℕ, zero, suc, ◌+◌}
+use Prim.Native.Nat.{ℕ, zero, suc}
 use Prim.Native.String.{String}
-use mathlib.Core.Bool.{Bool, true, false}
+use mathlib.Core.Bool.{true, false}
 use mathlib.Core.List.{List, [], ◌∷◌, ◌++◌}
-use lib.ListN.{set, replicate}
+use lib.ListN.{set}
 use Rattle.model.specs.Bytes.{ascii}
 use Rattle.model.specs.Answers.{refusal}
 use Rattle.model.specs.OpenHow.{O_DIRECTORY}

@@ -1,6 +1,5 @@
 -- The lookups of `Names`, each through the whole of `lookup_name` on real bytes, as one theorem; and the binary digits of some counts (RULES 18.4). Assumes
 -- nothing.
-use Prim.Native.Nat.{ℕ}
 use mathlib.Core.List.{map, [], ◌∷◌}
 use mathlib.Core.Path.{◌≡◌, refl}
 use Rattle.model.specs.Bytes.{field, field_bytes, part, contains, same_bytes, before, find, first_failing, ascii}

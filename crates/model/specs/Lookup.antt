@@ -3,7 +3,7 @@ use Rattle.std.specs.Prelude.{ℕ, cond, List, [], ◌∷◌, ltb}
 use Rattle.std.proofs.Math.Option.{Option, none, some}
 use Rattle.model.specs.Tree.{Tree, tree_of, is_directory}
 use Rattle.model.specs.TableCheck.{table_check}
-use Rattle.model.specs.Halving.{Halved, halving}
+use Rattle.model.specs.Halving.{halving}
 use Rattle.model.specs.Answers.{errno_number}
 use Rattle.model.specs.declared.Errno.{Errno}
 use Rattle.model.specs.declared.Errno.TheVariants.{Euclean, Enoent, Ebadf, Enotdir}

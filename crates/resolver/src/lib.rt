@@ -98,7 +98,7 @@ fn needs_directory(flags: u64, slash: bool) -> bool
 // The answer over a table that was accepted before, for a caller who checked it once.
 pub fn resolve_accepted<'a>(image: &'a [u8], h: Handle, path: &'a [u8], how: &[u8]) -> Answer
     requires { table_check image.now ≡ Accepted }
-    ensures { Answered image.now (call_of h path.now how.now) image.now (call_of h path.now how.now) result }
+    ensures { Answered image.now (call_of h path.now how.now) image.exit.now (call_of h path.exit.now how.exit.now) result }
 {
     let c = read_counts(image);
     let read = check_call(image, c, h, path, how);
@@ -114,7 +114,7 @@ pub fn resolve_accepted<'a>(image: &'a [u8], h: Handle, path: &'a [u8], how: &[u
 
 // The answer, for any bytes at all. Its counts are at most 83,968 and 40, and what is lent stays as it was.
 pub fn resolve<'a>(image: &'a [u8], h: Handle, path: &'a [u8], how: &[u8]) -> Answer
-    ensures { Answered image.now (call_of h path.now how.now) image.now (call_of h path.now how.now) result }
+    ensures { Answered image.now (call_of h path.now how.now) image.exit.now (call_of h path.exit.now how.exit.now) result }
 {
     let verdict = check(image);
     match verdict {
@@ -146,8 +146,8 @@ pub fn resolve_pair<'a>(
     restricted: &[u8],
 ) -> Pair
     ensures { Compared image.now (call_of h path.now how.now) (call_of then path.now restricted.now) result.first result.second
-        × Kept image.now (call_of h path.now how.now) image.now (call_of h path.now how.now)
-        × (restricted.now ≡ restricted.now) }
+        × Kept image.now (call_of h path.now how.now) image.exit.now (call_of h path.exit.now how.exit.now)
+        × (restricted.exit.now ≡ restricted.entry.now) }
 {
     let first = resolve(image, h, path, how);
     let second = resolve(image, then, path, restricted);

@@ -102,7 +102,7 @@ pub fn check_records(nodes: &[u8], mounts: &[u8], entries: &[u8], text: &[u8], c
 
 // The image stays as it was.
 pub fn check(image: &[u8]) -> Verdict
-    ensures { (result ≡ table_check image.now) × (image.now ≡ image.now) }
+    ensures { (result ≡ table_check image.now) × (image.exit.now ≡ image.entry.now) }
 {
     if image.len() < 20 {
         return Verdict::Broken { rule: 1, record: 0 };

@@ -1,32 +1,29 @@
 -- Demand 3 (RULES 12.3) between two opens, about their replies. Assumes nothing.
-use Prim.Native.Nat.{ℕ, ◌≤◌, ◌<◌}
-use mathlib.Core.Bool.{Bool, true, false, not, cond, ◌&&◌}
-use mathlib.Core.List.{List, []}
+use Prim.Native.Nat.{ℕ, ◌<◌}
+use mathlib.Core.Bool.{Bool, true, false, not, ◌&&◌}
+use mathlib.Core.List.{List}
 use mathlib.Core.Logic.{inl}
 use mathlib.Core.Option.{Option, none, some}
-use mathlib.Core.Path.{◌≡◌, refl, sym, ap, ap₂, ◌∙◌, subst}
+use mathlib.Core.Path.{◌≡◌, refl, sym, ap, ap₂, ◌∙◌}
 use native.Mathlib.Omega.{arith}
 use borrow.Author.Tests.{eqb-true, eqb-false}
 use lib.Dec.{eqb, leb}
-use lib.ListN.{length, get_or, set}
-use Rattle.model.specs.Answers.{refusal, refused}
-use Rattle.model.specs.Bytes.{has, find}
+use lib.ListN.{get_or, set}
+use Rattle.model.specs.Bytes.{has}
 use Rattle.model.specs.OpenHow.{flags_of, O_DIRECTORY}
-use Rattle.model.specs.Trace.{Restrictions, forbids}
-use Rattle.model.specs.Resolve.{Call, call_of, restrictions, resolve}
+use Rattle.model.specs.Trace.{Restrictions}
+use Rattle.model.specs.Resolve.{Call, call_of, resolve}
 use Rattle.model.specs.Descriptors.{Slot, closed, holding, open_path, handle_at, slot_at, is_closed, lowest_free, Served, denying, giving, answering, asked_in_vain, serve}
 use Rattle.model.specs.declared.Answer.{Answer}
 use Rattle.model.specs.declared.Answer.TheVariants.{Found, Refused}
-use Rattle.model.specs.declared.Errno.{Errno}
 use Rattle.model.specs.declared.Errno.TheVariants.{Einval}
 use Rattle.model.specs.declared.Handle.{Handle}
-use Rattle.model.specs.declared.Progress.{Progress}
 use Rattle.model.specs.declared.Reply.{Reply}
-use Rattle.model.specs.declared.Reply.TheVariants.{Opened, Refused as Reply-refused}
+use Rattle.model.specs.declared.Reply.TheVariants.{Opened}
 use Rattle.laws.proofs.ByteLaws.{field-ext, find-alike}
 use Rattle.laws.proofs.Cases.{some-not-none}
 use Rattle.laws.proofs.DescriptorLaws.{slot-below, slot_same, slot-other}
-use Rattle.theorems.specs.Adding.{Adds, Added, OnlyStops, events_of, first_forbidden}
+use Rattle.theorems.specs.Adding.{Adds, OnlyStops, events_of, first_forbidden}
 use Rattle.theorems.specs.Descriptors.{AddedToOpen, open_events, RepliesOnlyStop, OpensOnlyStop}
 use Rattle.theorems.proofs.Demand3.{demand-3}
 use Rattle.theorems.proofs.Descriptors.{through}

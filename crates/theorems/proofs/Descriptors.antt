@@ -3,31 +3,27 @@ use Prim.Native.Nat.{ℕ, ◌≤◌, ◌<◌}
 use mathlib.Core.Bool.{Bool, true, false}
 use mathlib.Core.List.{List, [], ◌∷◌, map}
 use mathlib.Core.Logic.{◌⊎◌, inl, inr}
-use mathlib.Core.Option.{Option, none, some}
+use mathlib.Core.Option.{Option, some}
 use mathlib.Core.Path.{◌≡◌, refl, sym, ap, ap₂, ◌∙◌, subst}
 use native.Mathlib.Omega.{arith}
 use borrow.Author.Tests.{eqb-true, eqb-false}
 use lib.Dec.{eqb}
-use lib.ListN.{get_or, set, replicate, get_or-replicate}
+use lib.ListN.{set, replicate, get_or-replicate}
 use Rattle.model.specs.Answers.{refusal, not_walked}
 use Rattle.model.specs.Handles.{place_of}
-use Rattle.model.specs.TableCheck.{table_check}
 use Rattle.model.specs.Resolve.{call_of, resolve}
 use Rattle.model.specs.Descriptors.{Slot, closed, holding, DescriptorCall, open_path, duplicate, close, set_mark, handle_at, start, slot_at, lowest_free}
 use Rattle.model.specs.Descriptors.{Served, denying, giving, answering, asked_in_vain, serve, replies_to, slots_after}
-use Rattle.model.specs.declared.Answer.{Answer}
 use Rattle.model.specs.declared.Answer.TheVariants.{Found}
 use Rattle.model.specs.declared.Descriptor.{Descriptor}
 use Rattle.model.specs.declared.Errno.TheVariants.{Ebadf}
 use Rattle.model.specs.declared.Handle.{Handle}
 use Rattle.model.specs.declared.Reached.{Reached}
-use Rattle.model.specs.declared.Refusal.{Refusal}
 use Rattle.model.specs.declared.Reply.{Reply}
 use Rattle.model.specs.declared.Reply.TheVariants.{Opened, Duplicated, Done, Refused}
-use Rattle.model.specs.declared.Verdict.TheVariants.{Broken}
 use Rattle.laws.proofs.Cases.{below_or}
 use Rattle.laws.proofs.DescriptorLaws.{holding-not, slot-below, slot-none, slot-other, slot-again, lowest-below, lowest-free, lowest-first, none_free, serve-cases}
-use Rattle.theorems.specs.Descriptors.{IsOpen, Resolved, OpenIsResolve, ClosedRefuses, LowestFree, LowestGiven, RefusalKeeps, MarkIsItsOwn, MarkStays, NothingOpen}
+use Rattle.theorems.specs.Descriptors.{OpenIsResolve, ClosedRefuses, LowestFree, LowestGiven, RefusalKeeps, MarkIsItsOwn, MarkStays, NothingOpen}
 
 -- an open whose mark is not asked in vain is what the resolver's answer makes of it
 pub through : (image : List ℕ) (slots : List Slot) (d : ℕ) (marked : Bool) (path how : List ℕ) (h : Handle) → slot_at slots d ≡ holding h

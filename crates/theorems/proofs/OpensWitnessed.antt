@@ -27,7 +27,7 @@ use Rattle.model.specs.declared.Errno.{Errno}
 use Rattle.model.specs.declared.Handle.{Handle}
 use Rattle.model.specs.declared.Reply.{Reply}
 use Rattle.model.specs.declared.Reply.TheVariants.{Refused}
-use Rattle.theorems.specs.Adding.{Added, Adds, Meeting, added_bits, with_bits, with_mark, meetings, events_of, first_forbidden}
+use Rattle.theorems.specs.Adding.{Adds, Meeting, added_bits, with_bits, with_mark, meetings, events_of, first_forbidden}
 use Rattle.theorems.specs.Descriptors.{AddedToOpen, open_events, RepliesOnlyStop}
 use Rattle.theorems.proofs.Witness.{set_of}
 use Rattle.theorems.proofs.OpenWitness.{TwoOpens, escaping, crossing, unhindered, then-slots, Applied, OpensWitnessed}

@@ -24,7 +24,7 @@ use table::check;
 
 // The table check: rule (0: accepted) and record.
 pub fn ventolaire_check(image: &[u8], out: &mut [u64]) -> usize
-    ensures { Writes (verdict_numbers (table_check image.now)) out.old out.new result × (image.now ≡ image.now) }
+    ensures { Writes (verdict_numbers (table_check image.now)) out.old out.new result × (image.exit.now ≡ image.entry.now) }
 {
     if out.len() < 2 {
         return 0;
@@ -44,7 +44,7 @@ pub fn ventolaire_resolve<'a>(
     out: &mut [u64],
 ) -> usize
     ensures { WritesAnswer image.now (call_by mount node mark path.now how.now)
-        image.now (call_by mount node mark path.now how.now) out.old out.new result }
+        image.exit.now (call_by mount node mark path.exit.now how.exit.now) out.old out.new result }
 {
     if out.len() < 6 {
         return 0;
@@ -70,7 +70,7 @@ pub fn ventolaire_resolve_accepted<'a>(
 ) -> usize
     requires { table_check image.now ≡ Accepted }
     ensures { WritesAnswer image.now (call_by mount node mark path.now how.now)
-        image.now (call_by mount node mark path.now how.now) out.old out.new result }
+        image.exit.now (call_by mount node mark path.exit.now how.exit.now) out.old out.new result }
 {
     if out.len() < 6 {
         return 0;
@@ -86,7 +86,7 @@ pub fn ventolaire_resolve_accepted<'a>(
 
 // A name looked up in one directory: error number (0: found), entry, node, names compared.
 pub fn ventolaire_lookup(image: &[u8], node: u64, name: &[u8], out: &mut [u64]) -> usize
-    ensures { WritesLookup image.now node name.now image.now name.now out.old out.new result }
+    ensures { WritesLookup image.now node name.now image.exit.now name.exit.now out.old out.new result }
 {
     if out.len() < 4 {
         return 0;
@@ -98,7 +98,7 @@ pub fn ventolaire_lookup(image: &[u8], node: u64, name: &[u8], out: &mut [u64]) 
 // The same in an image that `ventolaire_check` accepted and that has not changed since, without the table check.
 pub fn ventolaire_lookup_accepted(image: &[u8], node: u64, name: &[u8], out: &mut [u64]) -> usize
     requires { table_check image.now ≡ Accepted }
-    ensures { WritesLookup image.now node name.now image.now name.now out.old out.new result }
+    ensures { WritesLookup image.now node name.now image.exit.now name.exit.now out.old out.new result }
 {
     if out.len() < 4 {
         return 0;
@@ -119,7 +119,7 @@ pub fn ventolaire_build(
     ensures { WritesBuilt (parts_by nodes.now mounts.now entries.now text.now)
         buffer.old buffer.new out.old out.new result
         × PartsStay (parts_by nodes.now mounts.now entries.now text.now)
-        (parts_by nodes.now mounts.now entries.now text.now) }
+        (parts_by nodes.exit.now mounts.exit.now entries.exit.now text.exit.now) }
 {
     if out.len() <= 3 {
         return 0;
@@ -160,7 +160,7 @@ pub fn ventolaire_errnos(out: &mut [u64]) -> usize
 
 // Descriptors as they start, and the table check's verdict.
 pub fn ventolaire_start(image: &[u8], slots: &mut [u64; DESCRIPTORS], out: &mut [u64]) -> usize
-    ensures { WritesStart image.now slots.old slots.new out.old out.new result × (image.now ≡ image.now) }
+    ensures { WritesStart image.now slots.old slots.new out.old out.new result × (image.exit.now ≡ image.entry.now) }
 {
     if out.len() <= 1 {
         return 0;
@@ -172,7 +172,7 @@ pub fn ventolaire_start(image: &[u8], slots: &mut [u64; DESCRIPTORS], out: &mut 
 // Descriptors as they start, over an image that `ventolaire_check` accepted and that has not changed since.
 pub fn ventolaire_start_accepted(image: &[u8], slots: &mut [u64; DESCRIPTORS])
     requires { table_check image.now ≡ Accepted }
-    ensures { (slots_by slots.new ≡ start image.now) × (image.now ≡ image.now) }
+    ensures { (slots_by slots.new ≡ start image.now) × (image.exit.now ≡ image.entry.now) }
 {
     start_accepted(image, slots);
 }
@@ -189,7 +189,7 @@ pub fn ventolaire_open<'a>(
 ) -> usize
     ensures { WritesReply (serve image.now (slots_by slots.old) (open_path number mark path.now how.now))
         slots.old slots.new out.old out.new result
-        × Stay image.now path.now how.now image.now path.now how.now }
+        × Stay image.now path.now how.now image.exit.now path.exit.now how.exit.now }
 {
     if out.len() < 7 {
         return 0;
@@ -211,7 +211,7 @@ pub fn ventolaire_open_accepted<'a>(
     requires { table_check image.now ≡ Accepted }
     ensures { WritesReply (serve image.now (slots_by slots.old) (open_path number mark path.now how.now))
         slots.old slots.new out.old out.new result
-        × Stay image.now path.now how.now image.now path.now how.now }
+        × Stay image.now path.now how.now image.exit.now path.exit.now how.exit.now }
 {
     if out.len() < 7 {
         return 0;
@@ -255,7 +255,7 @@ pub fn ventolaire_set_mark(
     out: &mut [u64],
 ) -> usize
     ensures { WritesReply (serve image.now (slots_by slots.old) (set_mark number)) slots.old slots.new out.old out.new result
-        × (image.now ≡ image.now) }
+        × (image.exit.now ≡ image.entry.now) }
 {
     if out.len() < 7 {
         return 0;

@@ -15,7 +15,7 @@ use slots::DESCRIPTORS;
 // The table check: rule (0: accepted) and record.
 #[unsafe(no_mangle)]
 pub extern "C" fn ventolaire_check(image: &[u8], out: &mut [u64]) -> usize
-    ensures { Writes (verdict_numbers (table_check image.now)) out.old out.new result × (image.now ≡ image.now) }
+    ensures { Writes (verdict_numbers (table_check image.now)) out.old out.new result × (image.exit.now ≡ image.entry.now) }
 {
     ventolaire::ventolaire_check(image, out)
 }
@@ -32,7 +32,7 @@ pub extern "C" fn ventolaire_resolve<'a>(
     out: &mut [u64],
 ) -> usize
     ensures { WritesAnswer image.now (call_by mount node mark path.now how.now)
-        image.now (call_by mount node mark path.now how.now) out.old out.new result }
+        image.exit.now (call_by mount node mark path.exit.now how.exit.now) out.old out.new result }
 {
     ventolaire::ventolaire_resolve(image, mount, node, mark, path, how, out)
 }
@@ -50,7 +50,7 @@ pub extern "C" fn ventolaire_resolve_accepted<'a>(
 ) -> usize
     requires { table_check image.now ≡ Accepted }
     ensures { WritesAnswer image.now (call_by mount node mark path.now how.now)
-        image.now (call_by mount node mark path.now how.now) out.old out.new result }
+        image.exit.now (call_by mount node mark path.exit.now how.exit.now) out.old out.new result }
 {
     ventolaire::ventolaire_resolve_accepted(image, mount, node, mark, path, how, out)
 }
@@ -58,7 +58,7 @@ pub extern "C" fn ventolaire_resolve_accepted<'a>(
 // A name looked up in one directory: error number (0: found), entry, node, names compared.
 #[unsafe(no_mangle)]
 pub extern "C" fn ventolaire_lookup(image: &[u8], node: u64, name: &[u8], out: &mut [u64]) -> usize
-    ensures { WritesLookup image.now node name.now image.now name.now out.old out.new result }
+    ensures { WritesLookup image.now node name.now image.exit.now name.exit.now out.old out.new result }
 {
     ventolaire::ventolaire_lookup(image, node, name, out)
 }
@@ -72,7 +72,7 @@ pub extern "C" fn ventolaire_lookup_accepted(
     out: &mut [u64],
 ) -> usize
     requires { table_check image.now ≡ Accepted }
-    ensures { WritesLookup image.now node name.now image.now name.now out.old out.new result }
+    ensures { WritesLookup image.now node name.now image.exit.now name.exit.now out.old out.new result }
 {
     ventolaire::ventolaire_lookup_accepted(image, node, name, out)
 }
@@ -90,7 +90,7 @@ pub extern "C" fn ventolaire_build(
     ensures { WritesBuilt (parts_by nodes.now mounts.now entries.now text.now)
         buffer.old buffer.new out.old out.new result
         × PartsStay (parts_by nodes.now mounts.now entries.now text.now)
-        (parts_by nodes.now mounts.now entries.now text.now) }
+        (parts_by nodes.exit.now mounts.exit.now entries.exit.now text.exit.now) }
 {
     ventolaire::ventolaire_build(nodes, mounts, entries, text, buffer, out)
 }
@@ -111,7 +111,7 @@ pub extern "C" fn ventolaire_start(
     slots: &mut [u64; DESCRIPTORS],
     out: &mut [u64],
 ) -> usize
-    ensures { WritesStart image.now slots.old slots.new out.old out.new result × (image.now ≡ image.now) }
+    ensures { WritesStart image.now slots.old slots.new out.old out.new result × (image.exit.now ≡ image.entry.now) }
 {
     ventolaire::ventolaire_start(image, slots, out)
 }
@@ -120,7 +120,7 @@ pub extern "C" fn ventolaire_start(
 #[unsafe(no_mangle)]
 pub extern "C" fn ventolaire_start_accepted(image: &[u8], slots: &mut [u64; DESCRIPTORS])
     requires { table_check image.now ≡ Accepted }
-    ensures { (slots_by slots.new ≡ start image.now) × (image.now ≡ image.now) }
+    ensures { (slots_by slots.new ≡ start image.now) × (image.exit.now ≡ image.entry.now) }
 {
     ventolaire::ventolaire_start_accepted(image, slots);
 }
@@ -138,7 +138,7 @@ pub extern "C" fn ventolaire_open<'a>(
 ) -> usize
     ensures { WritesReply (serve image.now (slots_by slots.old) (open_path number mark path.now how.now))
         slots.old slots.new out.old out.new result
-        × Stay image.now path.now how.now image.now path.now how.now }
+        × Stay image.now path.now how.now image.exit.now path.exit.now how.exit.now }
 {
     ventolaire::ventolaire_open(image, slots, number, mark, path, how, out)
 }
@@ -157,7 +157,7 @@ pub extern "C" fn ventolaire_open_accepted<'a>(
     requires { table_check image.now ≡ Accepted }
     ensures { WritesReply (serve image.now (slots_by slots.old) (open_path number mark path.now how.now))
         slots.old slots.new out.old out.new result
-        × Stay image.now path.now how.now image.now path.now how.now }
+        × Stay image.now path.now how.now image.exit.now path.exit.now how.exit.now }
 {
     ventolaire::ventolaire_open_accepted(image, slots, number, mark, path, how, out)
 }
@@ -197,7 +197,7 @@ pub extern "C" fn ventolaire_set_mark(
     out: &mut [u64],
 ) -> usize
     ensures { WritesReply (serve image.now (slots_by slots.old) (set_mark number)) slots.old slots.new out.old out.new result
-        × (image.now ≡ image.now) }
+        × (image.exit.now ≡ image.entry.now) }
 {
     ventolaire::ventolaire_set_mark(image, slots, number, out)
 }
