@@ -1,11 +1,9 @@
 -- Calls made one after the other answer as the list of slots does (RULES 17.13). Assumes nothing.
-use Prim.Native.Nat.{ℕ}
 use mathlib.Core.List.{List, [], ◌∷◌}
-use mathlib.Core.Path.{◌≡◌, refl, ap, ap₂, ◌∙◌}
-use Rattle.model.specs.Descriptors.{Slot, serve, replies_to, slots_after}
+use mathlib.Core.Path.{refl, ap, ap₂, ◌∙◌}
+use Rattle.model.specs.Descriptors.{Slot, replies_to, slots_after}
 use Rattle.model.specs.declared.Reply.{Reply}
-use Rattle.slots.specs.Slots.{slots_by}
-use Rattle.descriptor_table.specs.Sequences.{Made, calls, InOrder, AsTheList, AnySequence}
+use Rattle.descriptor_table.specs.Sequences.{calls, AnySequence}
 
 pub any-sequence : AnySequence
 unfolding replies_to slots_after

@@ -1,17 +1,17 @@
 -- A promise about slots leaves one result: no two numbers stand for the same slot. Assumes nothing.
-use Prim.Native.Nat.{ℕ, zero, suc, ◌-◌, ◌/◌, ◌%◌, ◌<◌}
+use Prim.Native.Nat.{ℕ, zero, suc, ◌-◌, ◌/◌, ◌%◌}
 use mathlib.Core.Bool.{Bool, true, false}
 use mathlib.Core.List.{List, [], ◌∷◌, ◌++◌, map}
 use mathlib.Core.Path.{◌≡◌, refl, sym, ap, ap₂, ◌∙◌}
 use native.Mathlib.Omega.{arith}
 use borrow.Author.Tests.{eqb-true, eqb-false}
 use lib.Dec.{eqb}
-use lib.ListN.{take, drop, take-append-drop}
-use Rattle.model.specs.Descriptors.{Slot, closed, holding, Served}
+use lib.ListN.{take, take-append-drop}
+use Rattle.model.specs.Descriptors.{Slot, holding, Served}
 use Rattle.model.specs.declared.Handle.{Handle}
 use Rattle.model.specs.declared.Reply.{Reply}
 use Rattle.laws.proofs.DescriptorLaws.{holding-not}
-use Rattle.slots.specs.Slots.{handle_by, slot_by, slots_by}
+use Rattle.slots.specs.Slots.{slot_by, slots_by}
 use Rattle.descriptor_table.specs.Replies.{Serves}
 use Rattle.slots.proofs.SlotLaws.{slot-closed, slot_held}
 

@@ -7,7 +7,6 @@ use lib.ListN.{replicate}
 use Rattle.model.specs.Bytes.{find}
 use Rattle.model.specs.Descriptors.{duplicate, close, slot_at, lowest_free, serve}
 use Rattle.model.specs.declared.Refusal.{Refusal}
-use Rattle.model.specs.declared.Reply.{Reply}
 use Rattle.model.specs.declared.Reply.TheVariants.{Duplicated, Done, Refused}
 use Rattle.slots.specs.Slots.{slot_by, slots_by}
 use Rattle.descriptor_table.specs.Sequences.{Made, InOrder}

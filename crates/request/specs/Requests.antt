@@ -3,7 +3,7 @@ use Rattle.std.specs.Prelude.{ℕ, Bool, List}
 use Rattle.model.specs.Bytes.{has}
 use Rattle.model.specs.Tree.{tree_of}
 use Rattle.model.specs.OpenHow.{IN_ROOT}
-use Rattle.model.specs.Trace.{mark, Restrictions}
+use Rattle.model.specs.Trace.{Restrictions}
 use Rattle.model.specs.Walk.{Request as Asked}
 use Rattle.model.specs.Resolve.{restrictions_by, request_by}
 use Rattle.model.specs.declared.Handle.{Handle}

@@ -1,7 +1,6 @@
 -- `barred_bytes::block_holds` meets its contract. The loop's invariant: the byte stands in the part if it was found, or stands in
 -- what is left of it from `i` on. Assumes nothing.
 use borrow.Author.Rules.{rules}
-use Prim.Native.Nat.{◌-◌}
 use Rattle.barred_bytes.proofs.SeenLaws.{block-hit, block-miss, block-all}
 use Rattle.barred_bytes.proofs.block_holds.Goals as goal
 use Rattle.barred_bytes.proofs.block_holds.Goals.{then-s-at, else-s-at}

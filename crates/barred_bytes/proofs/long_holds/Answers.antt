@@ -1,7 +1,6 @@
 -- `barred_bytes::long_holds` meets its contract. The loop's invariant, for each of the two bytes: it stands in the
 -- name if it was found, or stands from `i` on. Assumes nothing.
 use borrow.Author.Rules.{rules}
-use Prim.Native.Nat.{◌-◌}
 use mathlib.Core.Path.{sym, ◌∙◌}
 use Rattle.laws.proofs.StringLaws.{seen-hit, seen-miss, seen_all}
 use Rattle.barred_bytes.specs.Barred.{holds_barred}

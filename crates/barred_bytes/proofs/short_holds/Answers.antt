@@ -1,7 +1,6 @@
 -- `barred_bytes::short_holds` meets its contract. The loop's invariant: no barred byte stands before `i`.
 -- Assumes nothing.
 use borrow.Author.Rules.{rules}
-use Prim.Native.Nat.{◌-◌}
 use Rattle.barred_bytes.proofs.BarredLaws.{barred-hit, barred-miss, barred-none}
 use Rattle.barred_bytes.proofs.short_holds.Goals as goal
 

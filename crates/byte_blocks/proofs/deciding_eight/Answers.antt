@@ -1,6 +1,5 @@
 -- `byte_blocks::deciding_eight` meets its contract. The loop's invariant: the strings are the same before `i`. Assumes nothing.
 use borrow.Author.Rules.{rules}
-use Prim.Native.Nat.{◌-◌}
 use Rattle.byte_blocks.proofs.BlockLaws.{decides-here, decides-later, decides-last, loads-same, loads-differ}
 use Rattle.byte_blocks.proofs.deciding_eight.Goals as goal
 

@@ -1,6 +1,5 @@
 -- `byte_blocks::deciding_thirty_two` meets its contract. The loop's invariant: the strings are the same before `i`. Assumes nothing.
 use borrow.Author.Rules.{rules}
-use Prim.Native.Nat.{◌-◌}
 use mathlib.Core.Path.{sym, ◌∙◌}
 use native.Mathlib.Omega.{arith}
 use Rattle.byte_blocks.proofs.BlockLaws.{decides-here, decides-later, decides-last}

@@ -1,7 +1,6 @@
 -- `byte_blocks::differs` meets its contract. The loop's invariant: the block differs if a byte was seen to, or what is left of it
 -- from `k` on does. Assumes nothing.
 use borrow.Author.Rules.{rules}
-use Prim.Native.Nat.{◌-◌}
 use Rattle.byte_blocks.proofs.BlockLaws.{seen_start, seen_other, seen_same, seen-whole}
 use Rattle.byte_blocks.proofs.differs.Goals as goal
 use Rattle.byte_blocks.proofs.differs.Goals.{then-a-k, else-a-k}

@@ -1,6 +1,5 @@
 -- `image_writer::put_bodies` meets its contract. Assumes nothing.
 use borrow.Author.Rules.{rules}
-use Prim.Native.Nat.{◌-◌}
 use native.Mathlib.Omega.{arith}
 use Rattle.model.specs.Build.{body_length, body_bytes}
 use Rattle.parts.specs.Parts.{nodes_tree}

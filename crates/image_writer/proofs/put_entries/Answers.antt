@@ -1,6 +1,5 @@
 -- `image_writer::put_entries` meets its contract. Assumes nothing.
 use borrow.Author.Rules.{rules}
-use Prim.Native.Nat.{◌-◌}
 use Rattle.image_writer.proofs.JoinLaws.{entries_none, entries-length, entries-room, entries-on, entries-all}
 use Rattle.image_writer.proofs.put_entries.Goals as goal
 

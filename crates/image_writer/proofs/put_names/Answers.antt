@@ -1,6 +1,5 @@
 -- `image_writer::put_names` meets its contract. Assumes nothing.
 use borrow.Author.Rules.{rules}
-use Prim.Native.Nat.{◌-◌}
 use native.Mathlib.Omega.{arith}
 use Rattle.model.specs.Tree.{name_length_in, name_in}
 use Rattle.image_writer.proofs.JoinLaws.{texts-none, texts-room, texts-next, texts-on, texts-all, texts-end}

@@ -1,6 +1,5 @@
 -- `image_writer::put_nodes` meets its contract. Assumes nothing.
 use borrow.Author.Rules.{rules}
-use Prim.Native.Nat.{◌-◌}
 use Rattle.image_writer.proofs.JoinLaws.{nodes-none, nodes-length, nodes-room, nodes-on, nodes-all}
 use Rattle.image_writer.proofs.put_nodes.Goals as goal
 

@@ -1,5 +1,5 @@
 -- `name_search::search_names` meets its contract. The loop's invariant: the search is that of the names left, so many having been compared. Assumes nothing.
-use Prim.Native.Nat.{◌+◌, ◌-◌, ◌≤◌}
+use Prim.Native.Nat.{◌+◌, ◌≤◌}
 use Rattle.model.specs.Tree.{tree_of}
 use Rattle.model.specs.Halving.{halving}
 use Rattle.laws.proofs.HalvingLaws.{Halves}

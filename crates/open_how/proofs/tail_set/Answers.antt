@@ -1,6 +1,6 @@
 -- `open_how::tail_set` meets its contract. The loop's invariant: a byte of the tail is set if one was met, or one is from `i` on.
 -- Assumes nothing.
-use Prim.Native.Nat.{ℕ, ◌-◌}
+use Prim.Native.Nat.{ℕ}
 use mathlib.Core.Bool.{Bool, not}
 use mathlib.Core.Path.{refl, ap, ◌∙◌, sym}
 use native.Mathlib.Omega.{arith}

@@ -1,5 +1,4 @@
 -- `slots::lowest_free` meets its contract. The loop's invariant: the search is that from `d` on. Assumes nothing.
-use Prim.Native.Nat.{◌-◌}
 use mathlib.Core.Path.{ap}
 use native.Mathlib.Omega.{arith}
 use Rattle.laws.proofs.ByteLaws.{finds-here, finds-on, finds-none}

@@ -1,7 +1,6 @@
 -- `string_order::alike` meets its contract. The loop's invariant: what the strings have in common goes on from the `k`-th block. Assumes
 -- nothing.
 use borrow.Author.Rules.{rules}
-use Prim.Native.Nat.{◌-◌}
 use Rattle.string_order.proofs.CompareLaws.{common-start, common-here, common-on, common-end}
 use Rattle.string_order.proofs.alike.Goals as goal
 

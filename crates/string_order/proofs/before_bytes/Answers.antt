@@ -1,7 +1,6 @@
 -- `string_order::before_bytes` meets its contract. The loop's invariant: the order of the strings is that of what they hold from `i` on.
 -- Assumes nothing.
 use borrow.Author.Rules.{rules}
-use Prim.Native.Nat.{◌-◌}
 use Rattle.laws.proofs.StringLaws.{order-past, order_other, order-on, order-end}
 use Rattle.string_order.proofs.before_bytes.Goals as goal
 

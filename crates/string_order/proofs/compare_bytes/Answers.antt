@@ -1,6 +1,5 @@
 -- `string_order::compare_bytes` meets its contract. The loop's invariant: the strings are the same before `i`. Assumes nothing.
 use borrow.Author.Count.{below_more}
-use Prim.Native.Nat.{◌-◌}
 use native.Mathlib.Omega.{arith}
 use Rattle.byte_blocks.proofs.BlockLaws.{byte-big}
 use Rattle.string_order.proofs.CompareLaws.{ordered-other, ordered-begun}

@@ -1,7 +1,6 @@
 -- `strings::long_holds` meets its contract. The loop's invariant: the byte stands in the string if it was found, or stands from
 -- `i` on. Assumes nothing.
 use borrow.Author.Rules.{rules}
-use Prim.Native.Nat.{◌-◌}
 use Rattle.laws.proofs.StringLaws.{seen-hit, seen-miss, seen_all}
 use Rattle.strings.proofs.long_holds.Goals as goal
 use Rattle.strings.proofs.long_holds.Goals.{then-s-i, else-s-i}

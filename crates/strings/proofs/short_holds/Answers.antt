@@ -1,6 +1,5 @@
 -- `strings::short_holds` meets its contract. The loop's invariant: the byte does not stand before `i`. Assumes nothing.
 use borrow.Author.Rules.{rules}
-use Prim.Native.Nat.{◌-◌}
 use Rattle.laws.proofs.StringLaws.{seen-stands, seen-miss, seen_all}
 use Rattle.strings.proofs.short_holds.Goals as goal
 

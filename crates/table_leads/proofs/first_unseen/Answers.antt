@@ -1,7 +1,6 @@
 -- `table_leads::first_unseen` meets its contract. The loop's invariant: where the quick way stops from here with the steps left is where it
 -- stops from the start. Assumes nothing.
 use borrow.Author.Rules.{rules}
-use Prim.Native.Nat.{◌-◌}
 use Rattle.table_leads.proofs.ClimbLaws.{stops-here, goes_on, stops-done}
 use Rattle.table_leads.proofs.first_unseen.Goals as goal
 

@@ -1,6 +1,5 @@
 -- `table_mounts::first_clash_of_few` meets its contract. The loop's invariant: the first clash is the first from here on. Assumes nothing.
 use borrow.Author.Rules.{rules}
-use Prim.Native.Nat.{◌-◌}
 use Rattle.model.specs.TableCheck.{shares_point}
 use Rattle.parts.proofs.FoundLaws.{first-hit, first-miss, first-none}
 use Rattle.table_mounts.specs.Clashes.{first_clash}

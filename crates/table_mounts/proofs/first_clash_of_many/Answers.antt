@@ -1,6 +1,6 @@
 -- `table_mounts::first_clash_of_many` meets its contract. The loop's invariant: the first clash is the first from here on,
 -- and the points of the mounts passed are noted. Assumes nothing.
-use Prim.Native.Nat.{ℕ, ◌-◌}
+use Prim.Native.Nat.{ℕ}
 use mathlib.Core.Path.{refl, ◌∙◌}
 use native.Mathlib.Omega.{arith}
 use Rattle.model.specs.TableCheck.{shares_point}

@@ -1,6 +1,5 @@
 -- `table_mounts::shares_point` meets its contract. The loop's invariant: an earlier mount shares the point if one from `k` on does. Assumes nothing.
 use borrow.Author.Rules.{rules}
-use Prim.Native.Nat.{◌-◌}
 use Rattle.table_mounts.proofs.ClashLaws.{shares-start, shares-here, shares-on, shares-none}
 use Rattle.table_mounts.proofs.shares_point.Goals as goal
 

@@ -1,7 +1,6 @@
 -- `table_nodes::first_bad_node` meets its contract. The loop's invariant: the sum is that of the directories passed, and the lowest
 -- failing node is the lowest from `n` on. Assumes nothing.
 use borrow.Author.Rules.{rules}
-use Prim.Native.Nat.{◌-◌}
 use Rattle.model.specs.TableCheck.{directory_count}
 use Rattle.table_nodes.proofs.NodeLaws.{nodes-start, node-bad, nodes-on, sum-bad, none-bad}
 use Rattle.table_nodes.proofs.first_bad_node.Goals as goal

@@ -1,6 +1,5 @@
 -- `table_texts::first_marked` meets its contract. The loop's invariant: no record before this one is barred. Assumes nothing.
 use borrow.Author.Rules.{rules}
-use Prim.Native.Nat.{◌-◌}
 use native.Mathlib.Omega.{arith}
 use Rattle.parts.proofs.FoundLaws.{first-hit, first-miss, first-none}
 use Rattle.table_texts.proofs.RecordLaws.{record-fits, first-start}

@@ -1,6 +1,5 @@
 -- `table_texts::longer` meets its contract. The loop's invariant: the sum is that of the parts before. Assumes nothing.
 use borrow.Author.Rules.{rules}
-use Prim.Native.Nat.{◌-◌}
 use native.Mathlib.Omega.{arith}
 use Rattle.model.specs.TableCheck.{sum_below}
 use Rattle.table_texts.proofs.RecordLaws.{record-fits, longer-here, longer-on, longer-not}

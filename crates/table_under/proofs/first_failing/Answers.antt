@@ -1,5 +1,4 @@
 -- `table_under::first_failing` meets its contract. The loop's invariant: the lowest record that breaks its rule is none of those passed. Assumes nothing.
-use Prim.Native.Nat.{◌-◌}
 use mathlib.Core.Bool.{not}
 use mathlib.Core.Path.{ap}
 use native.Mathlib.Omega.{arith}

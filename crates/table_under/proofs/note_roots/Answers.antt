@@ -1,5 +1,5 @@
 -- `table_under::note_roots` meets its contract. The loop's invariant: the roots of the mounts passed are noted. Assumes nothing.
-use Prim.Native.Nat.{ℕ, ◌-◌}
+use Prim.Native.Nat.{ℕ}
 use mathlib.Core.Path.{subst}
 use native.Mathlib.Omega.{arith}
 use Rattle.model.specs.Tree.{mount_root_in}

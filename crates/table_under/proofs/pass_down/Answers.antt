@@ -1,6 +1,6 @@
 -- `table_under::pass_down` meets its contract. The loop's invariant: what the lists have is what passing the nodes so far leaves. Assumes nothing.
 use borrow.Author.Rules.{rules}
-use Prim.Native.Nat.{ℕ, ◌-◌}
+use Prim.Native.Nat.{ℕ}
 use mathlib.Core.Path.{sym, ap, subst, ◌∙◌}
 use native.Mathlib.Omega.{arith}
 use Rattle.model.specs.Tree.{parent_in}

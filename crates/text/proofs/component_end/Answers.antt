@@ -1,7 +1,6 @@
 -- `text::component_end` meets its contract. The loop's invariant: the component at `at` ends where the bytes from `end` on have
 -- their first slash. Assumes nothing.
 use borrow.Author.Rules.{rules}
-use Prim.Native.Nat.{◌-◌}
 use Rattle.text.proofs.Scans.{end-here, end_on, end-done}
 use Rattle.text.proofs.component_end.Goals as goal
 

@@ -1,6 +1,5 @@
 -- `text::skip_slashes` meets its contract. The loop's invariant: past the slashes at `at` is past those at `next`. Assumes nothing.
 use borrow.Author.Rules.{rules}
-use Prim.Native.Nat.{◌-◌}
 use Rattle.text.proofs.Scans.{past-here, past-on, past-done}
 use Rattle.text.proofs.skip_slashes.Goals as goal
 

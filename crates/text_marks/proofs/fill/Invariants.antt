@@ -1,6 +1,6 @@
 -- `text_marks::fill` meets its contract. The loop's invariant: the blocks from here on are marked, and `next` is the first barred byte from them
 -- on. Assumes nothing.
-use Prim.Native.Nat.{◌+◌, ◌-◌, ◌/◌, ◌≤◌}
+use Prim.Native.Nat.{◌+◌, ◌/◌, ◌≤◌}
 use mathlib.Core.Path.{◌≡◌}
 use lib.ListN.{length}
 use Rattle.text_marks.specs.Marks.{MarkedFrom}

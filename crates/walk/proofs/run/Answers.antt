@@ -1,7 +1,6 @@
 -- `walk::run` meets its contract. The loop's invariant: the walk is ready for its next component, and the definitions answer from here
 -- what they answer from the start. Each step takes one of the components that may be taken. Assumes nothing.
 use borrow.Author.Rules.{rules}
-use Prim.Native.Nat.{◌-◌}
 use Rattle.walk.proofs.RunLaws.{goes_further, further-long, further-ready, further_same, ended-inside, ended_same, failed-same}
 use Rattle.walk.proofs.run.Goals as goal
 

@@ -1,6 +1,5 @@
 -- `writer::few` meets its contract. Assumes nothing.
 use borrow.Author.Rules.{rules}
-use Prim.Native.Nat.{◌-◌}
 use native.Mathlib.Omega.{arith}
 use Rattle.writer.proofs.PutLaws.{laid_none, laid-length, laid_on, laid-all}
 use Rattle.writer.proofs.few.Goals as goal

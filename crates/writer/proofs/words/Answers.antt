@@ -1,6 +1,5 @@
 -- `writer::words` meets its contract. Assumes nothing.
 use borrow.Author.Rules.{rules}
-use Prim.Native.Nat.{◌-◌}
 use native.Mathlib.Omega.{arith}
 use Rattle.writer.proofs.PutLaws.{words-none, words-length, words-on, words-all}
 use Rattle.writer.proofs.words.Goals as goal

@@ -1,7 +1,6 @@
 -- `text_marks::blocks::whole_holds` meets its contract. The loop's invariant: the byte stands in the block if it was found, or stands in
 -- what is left of it from `i` on. Assumes nothing.
 use borrow.Author.Rules.{rules}
-use Prim.Native.Nat.{◌-◌}
 use Rattle.barred_bytes.proofs.SeenLaws.{block-hit, block-miss, block-all}
 use Rattle.text_marks.proofs.blocks.whole_holds.Goals as goal
 use Rattle.text_marks.proofs.blocks.whole_holds.Goals.{then-text-at, else-text-at}
