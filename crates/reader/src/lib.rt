@@ -1,7 +1,6 @@
-// "A reading place in the text that knows which bytes remain" (RULES 8.8): a `Reader` is a text and a position in it. The borrow checker
-// covers no function over a struct that holds a slice, so those here are thin: each takes a reader apart or puts one together,
-// leaves the work to a covered function of a slice and a position, and is proved by hand. `next_component` and `at_end` serve
-// callers that hold a text and a position: they make the reader, and such a caller's own proof stays the borrow checker's.
+// "A reading place in the text that knows which bytes remain" (RULES 8.8): a `Reader` is a text and a position in it. Its functions are thin:
+// each takes a reader apart or puts one together, and leaves the work to a function of a slice and a position. `next_component` and `at_end`
+// serve callers that hold a text and a position: they make the reader.
 #![tactic(auto)]
 
 ghost use Rattle.std.specs.Prelude.{◌≡◌, ◌≤◌, eqb, length, drop};

@@ -42,5 +42,5 @@ returns-in-At c = let pre = c.requires in
 pub returns-in-Nowhere : goal.returns-in-Nowhere
 returns-in-Nowhere c = let pre = c.requires in
     let n = (counts _ pre c.read_counts-c.ensures).nodes_are in
-    let on = directory-is _ _ (omega (arith, n)) c.node_kind.ensures.0 c.if-node_kind-ne1.false in
-    (c.miss-in-Nowhere.ensures ∙ lookup-missed _ pre _ _ on c.search_names-h.ensures (omega (arith, n)) c.in-Nowhere.is, refl, refl)
+    let directory = directory-is _ _ (omega (arith, n)) c.node_kind.ensures.0 c.if-node_kind-ne1.false in
+    (c.miss-in-Nowhere.ensures ∙ lookup-missed _ pre _ _ directory c.search_names-h.ensures (omega (arith, n)) c.in-Nowhere.is, refl, refl)
