@@ -2,7 +2,7 @@
 -- and leave a byte over. What it answers comes from the worked tables by the theorems; written again it is the bench image. Assumes nothing.
 use Prim.Native.Nat.{ℕ}
 use mathlib.Core.Bool.{true, false}
-use mathlib.Core.List.{List, [], ◌∷◌, ◌++◌, map}
+use mathlib.Core.List.{List, [], ◌∷◌, map}
 use mathlib.Core.Option.{some}
 use mathlib.Core.Path.{◌≡◌, refl, sym, ap, ◌∙◌}
 use lib.ListN.{length, take}
@@ -28,37 +28,9 @@ use Rattle.model.proofs.WorkedTable.{worked}
 use Rattle.model.proofs.Names.{Row, looked_up_in, names}
 use Rattle.model.proofs.WorkedNames.{worked-names}
 use Rattle.round_trip.specs.SameTree.{without_offsets, SameTree, in_tree}
+use Rattle.round_trip.proofs.SharedImage.{sharing}
 use Rattle.round_trip.proofs.SameColumns.{listed, Agreeing, columns-same}
 use Rattle.round_trip.proofs.SameTree.{walks-alike, handles-alike, answers-alike, lookups-alike, one-image}
-
--- the bench tree's records, with other offsets
-unfoldable pub sharing : List ℕ
-sharing =
-    hex "54 4F 43 31 0C 00 02 00 0A 00 00 00 26 00 00 00 2A 01 00 00"
-    ++ hex "01 00 00 00 00 00 00 00 01 00 00 00"
-    ++ hex "01 00 00 00 01 00 00 00 02 00 00 00"
-    ++ hex "01 00 01 00 03 00 00 00 06 00 00 00"
-    ++ hex "02 00 00 00 00 00 00 00 00 00 00 00"
-    ++ hex "03 00 00 00 0E 00 00 00 05 00 00 00"
-    ++ hex "03 00 00 00 00 00 00 00 0D 00 00 00"
-    ++ hex "03 00 00 00 13 00 00 00 04 00 00 00"
-    ++ hex "01 00 01 00 09 00 00 00 00 00 00 00"
-    ++ hex "01 00 08 00 09 00 00 00 01 00 00 00"
-    ++ hex "02 00 00 00 00 00 00 00 00 00 00 00"
-    ++ hex "04 00 00 00 00 00 00 00 03 00 00 00"
-    ++ hex "03 00 00 00 09 00 00 00 05 00 00 00"
-    ++ bench_mounts
-    ++ hex "01 00 00 00 03 00 01 00"
-    ++ hex "05 00 00 00 03 00 02 00"
-    ++ hex "17 00 00 00 04 00 07 00"
-    ++ hex "1B 00 00 00 03 00 05 00"
-    ++ hex "1E 00 00 00 02 00 0A 00"
-    ++ hex "13 00 00 00 04 00 06 00"
-    ++ hex "09 00 00 00 01 00 0B 00"
-    ++ hex "09 00 00 00 04 00 03 00"
-    ++ hex "20 00 00 00 02 00 04 00"
-    ++ hex "22 00 00 00 03 00 09 00"
-    ++ ascii "/lab/cal/tare/../..looppoolabsfduprun?"
 
 sharing-agrees : Agreeing (without_offsets (tree_of bench)) (without_offsets (tree_of sharing))
 unfolding field part ascii sizes_of nodes_part mounts_part entries_part text_part tree_of digit hex_bytes hex bench_nodes bench_mounts bench_entries bench sharing without_offsets listed

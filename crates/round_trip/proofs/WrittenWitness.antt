@@ -2,7 +2,7 @@
 -- written in, the same with a mount that breaks rule 6, and the bench tree's parts, of which the bench image is written. Assumes nothing.
 use Prim.Native.Nat.{ℕ, zero, suc, ◌<◌}
 use mathlib.Core.Bool.{Bool, true, ◌&&◌}
-use mathlib.Core.List.{List, [], ◌∷◌, ◌++◌}
+use mathlib.Core.List.{List, [], ◌∷◌}
 use mathlib.Core.Option.{none}
 use mathlib.Core.Path.{◌≡◌, refl, sym, ◌∙◌}
 use native.Mathlib.Omega.{arith}
@@ -21,40 +21,8 @@ use Rattle.laws.proofs.Cases.{both}
 use Rattle.laws.proofs.Acceptance.{texts-inside}
 use Rattle.round_trip.specs.SameTree.{SameTree}
 use Rattle.round_trip.specs.Written.{Bytewise, WrittenAgain}
+use Rattle.round_trip.proofs.WrittenParts.{shared, unzeroed, bench_parts, image}
 use Rattle.round_trip.proofs.Written.{verdict-is-check, written-accepted, reads-back, writes_again}
-
--- a directory that names "a", a symbolic link to "b", and "b", a file; the link's body is the name "b" itself, and the text has it first
-abbrev nodes : List ℕ
-nodes = hex "01 00 00 00 00 00 00 00 02 00 00 00" ++ hex "03 00 00 00 00 00 00 00 01 00 00 00" ++ hex "02 00 00 00 00 00 00 00 00 00 00 00"
-
-abbrev entries : List ℕ
-entries = hex "01 00 00 00 01 00 01 00" ++ hex "00 00 00 00 01 00 02 00"
-
--- the parts, with the one mount's record
-abbrev parts_with : List ℕ → Parts
-parts_with mounts = record { nodes = nodes; mounts = mounts; entries = entries; text = ascii "ba" }
-
-abbrev shared : Parts
-shared = parts_with (hex "00 00 00 00 00 00 00 00")
-
--- a mount whose last field is not zero
-abbrev unzeroed : Parts
-unzeroed = parts_with (hex "00 00 00 00 00 00 01 00")
-
-abbrev bench_parts : Parts
-bench_parts = record { nodes = bench_nodes; mounts = bench_mounts; entries = bench_entries; text = ascii "labcalpoolabsfdloopttareuprun../../lab/cal/tarelooptare/" }
-
--- what is written: the text is "abb", both names and the body, one after the other
-abbrev image : List ℕ
-image =
-    hex "54 4F 43 31 03 00 01 00 02 00 00 00 03 00 00 00 53 00 00 00"
-    ++ hex "01 00 00 00 00 00 00 00 02 00 00 00"
-    ++ hex "03 00 00 00 02 00 00 00 01 00 00 00"
-    ++ hex "02 00 00 00 00 00 00 00 00 00 00 00"
-    ++ hex "00 00 00 00 00 00 00 00"
-    ++ hex "00 00 00 00 01 00 01 00"
-    ++ hex "01 00 00 00 01 00 02 00"
-    ++ ascii "abb"
 
 -- what comes of evaluating: the premises of the theorems, and what is written
 pub record Evaluated : Type 0 where
