@@ -1,6 +1,6 @@
 -- What a call comes to before its walk, once its table is accepted.
 use Rattle.std.specs.Prelude.{ℕ, List}
-use Rattle.std.proofs.Math.Option.{Option, none, some}
+use mathlib.Core.Option.{Option, none, some}
 use Rattle.model.specs.Resolve.{Call, refused_after_table}
 use Rattle.model.specs.declared.Refusal.{Refusal}
 use Rattle.open_how.specs.Fields.{fields_of}

@@ -1,6 +1,6 @@
 -- One component under restrictions: what the definitions' step comes to once the restrictions have read its events.
 use Rattle.std.specs.Prelude.{ℕ, Bool, cond, ◌≡◌, ltb}
-use Rattle.std.proofs.Math.Option.{Option, none, some}
+use mathlib.Core.Option.{Option, none, some}
 use Rattle.model.specs.Trace.{Restrictions, forbid_any}
 use Rattle.model.specs.Walk.{Request, Move, stay_at, climb, at_top, Landing, outside, target, reading, Step, fail, go, follow}
 use Rattle.model.specs.declared.Place.{Place}

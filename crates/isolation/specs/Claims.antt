@@ -1,6 +1,6 @@
 -- The two claims about a confined call (RULES 20.3, 20.6).
 use Rattle.std.specs.Prelude.{ℕ, Bool, true, ◌||◌, List, ◌≡◌}
-use Rattle.std.proofs.Math.Option.{none}
+use mathlib.Core.Option.{none}
 use Rattle.model.specs.Bytes.{has}
 use Rattle.model.specs.Tree.{tree_of}
 use Rattle.model.specs.TableCheck.{table_check}

@@ -1,7 +1,7 @@
 -- When two tables have a handle's part in common (RULES 20.4). Only what is said here is asked of them: not parents, not the targets of magic links, not
 -- mount 0's root, not the counts, not the numbers of entries or where texts lie, and not what a covered directory holds (RULES 20.5).
 use Rattle.std.specs.Prelude.{ℕ, ◌+◌, ◌<◌, true, false, ◌≡◌}
-use Rattle.std.proofs.Math.Option.{some}
+use mathlib.Core.Option.{some}
 use Rattle.model.specs.Tree.{Tree, is_directory, mount_on, covered}
 use Rattle.model.specs.declared.Place.{Place}
 use Rattle.isolation.specs.Reachable.{Reachable}

@@ -1,6 +1,6 @@
 -- The part of a tree that a handle leads to (RULES 20.2).
 use Rattle.std.specs.Prelude.{ℕ, true, false, List, [], ◌∷◌, ◌≡◌}
-use Rattle.std.proofs.Math.Option.{some}
+use mathlib.Core.Option.{some}
 use Rattle.model.specs.Tree.{Tree, holds, mount_on, covered}
 use Rattle.model.specs.Walk.{place_at, root_of}
 use Rattle.model.specs.declared.Place.{Place}

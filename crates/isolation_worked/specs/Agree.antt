@@ -1,7 +1,7 @@
 -- Whether two tables have a place's part in common (RULES 20.4), as a test that can be run: a list of places is gone through, each is compared in both
 -- tables, and all that one leads to has to stand in the list. A list that lacks a place fails the test, so nothing has to be believed of how it was made.
 use Rattle.std.specs.Prelude.{ℕ, zero, suc, ◌+◌, Bool, true, false, cond, not, ◌&&◌, ◌||◌, List, [], ◌∷◌, ◌++◌, eqb}
-use Rattle.std.proofs.Math.Option.{Option, none, some}
+use mathlib.Core.Option.{Option, none, some}
 use Rattle.model.specs.Bytes.{same_bytes, is_some, first_failing}
 use Rattle.model.specs.Tree.{Tree, is_directory, mount_on}
 use Rattle.model.specs.Walk.{place_at, same_place, root_of}

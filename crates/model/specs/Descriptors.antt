@@ -1,6 +1,6 @@
 -- Descriptors (RULES 17): the numbers that a script holds in place of handles, as a plain list of 64 slots.
 use Rattle.std.specs.Prelude.{ℕ, Bool, true, false, cond, not, ◌&&◌, List, [], ◌∷◌, ltb, leb, length, get_or, set, replicate}
-use Rattle.std.proofs.Math.Option.{Option, none, some}
+use mathlib.Core.Option.{Option, none, some}
 use Rattle.model.specs.Bytes.{has, find}
 use Rattle.model.specs.Tree.{tree_of, is_directory}
 use Rattle.model.specs.Answers.{errno_number, refusal, not_walked}

@@ -1,6 +1,6 @@
 -- The search by halving (RULES 18): a name among the sorted names of a directory, with how many names were compared.
 use Rattle.std.specs.Prelude.{ℕ, zero, suc, ◌+◌, ◌-◌, ◌/◌, cond, List}
-use Rattle.std.proofs.Math.Option.{Option, none, some}
+use mathlib.Core.Option.{Option, none, some}
 use Rattle.model.specs.Bytes.{same_bytes, before}
 use Rattle.model.specs.Tree.{Tree}
 

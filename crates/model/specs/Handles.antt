@@ -1,6 +1,6 @@
 -- The handle check (RULES 7.4).
 use Rattle.std.specs.Prelude.{not, ◌&&◌, ◌||◌, ltb}
-use Rattle.std.proofs.Math.Option.{Option, none}
+use mathlib.Core.Option.{Option, none}
 use Rattle.model.specs.Tree.{Tree, is_directory, under, covered}
 use Rattle.model.specs.Answers.{refuse_if}
 use Rattle.model.specs.declared.Place.{Place}

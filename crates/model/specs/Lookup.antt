@@ -1,6 +1,6 @@
 -- A name looked up in one directory of a table (RULES 18.5 to 18.8).
 use Rattle.std.specs.Prelude.{ℕ, cond, List, [], ◌∷◌, ltb}
-use Rattle.std.proofs.Math.Option.{Option, none, some}
+use mathlib.Core.Option.{Option, none, some}
 use Rattle.model.specs.Tree.{Tree, tree_of, is_directory}
 use Rattle.model.specs.TableCheck.{table_check}
 use Rattle.model.specs.Halving.{halving}

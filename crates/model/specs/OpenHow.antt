@@ -1,6 +1,6 @@
 -- The open_how check (RULES 6): "open_how: u64 flags, u16 mode, 6 padding bytes, u64 resolve." (RULES 6.1)
 use Rattle.std.specs.Prelude.{ℕ, ◌+◌, ◌-◌, ◌^◌, Bool, not, ◌&&◌, ◌||◌, List, eqb, ltb, length, get_or}
-use Rattle.std.proofs.Math.Option.{Option, none, some}
+use mathlib.Core.Option.{Option, none, some}
 use Rattle.model.specs.Bytes.{field, has, find, is_some, or_else}
 use Rattle.model.specs.Answers.{refuse_if, unknown}
 use Rattle.model.specs.declared.Refusal.{Refusal}

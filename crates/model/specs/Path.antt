@@ -1,6 +1,6 @@
 -- Texts, that is the given path and the bodies of symbolic links (RULES 8): their components, and the checks of the given path (RULES 7.3).
 use Rattle.std.specs.Prelude.{ℕ, ◌+◌, Bool, true, false, cond, not, ◌&&◌, List, [], ◌∷◌, eqb, ltb, length}
-use Rattle.std.proofs.Math.Option.{Option, none}
+use mathlib.Core.Option.{Option, none}
 use Rattle.model.specs.Bytes.{contains}
 use Rattle.model.specs.Answers.{refuse_if}
 use Rattle.model.specs.declared.Refusal.{Refusal}

@@ -1,6 +1,6 @@
 -- The resolver's answer, for any bytes at all.
 use Rattle.std.specs.Prelude.{ℕ, Bool, cond, not, ◌&&◌, ◌||◌, List}
-use Rattle.std.proofs.Math.Option.{Option, none, some}
+use mathlib.Core.Option.{Option, none, some}
 use Rattle.model.specs.Bytes.{has, or_else, if_none}
 use Rattle.model.specs.Tree.{tree_of}
 use Rattle.model.specs.Answers.{refusal, not_walked}

@@ -1,6 +1,6 @@
 -- One step of a walk under restrictions. The walk's answer is that of its steps, one after the other.
 use Rattle.std.specs.Prelude.{ℕ, ◌-◌, List, [], ◌∷◌}
-use Rattle.std.proofs.Math.Option.{Option, none, some}
+use mathlib.Core.Option.{Option, none, some}
 use Rattle.model.specs.Answers.{refused}
 use Rattle.model.specs.Path.{Component}
 use Rattle.model.specs.Trace.{Restrictions, forbid_any, answer}

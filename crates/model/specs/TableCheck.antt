@@ -1,7 +1,7 @@
 -- The table check (RULES 4): "accepted", or the lowest rule broken and the lowest record number breaking it. Each rule gives the lowest
 -- record that breaks it, if there is one. "Sums are plain whole numbers and never wrap" (RULES 4.11): numbers here have no bound.
 use Rattle.std.specs.Prelude.{ℕ, zero, suc, ◌+◌, ◌-◌, ◌*◌, Bool, true, false, cond, not, ◌&&◌, List, eqb, ltb, leb, length, take}
-use Rattle.std.proofs.Math.Option.{Option, none, some}
+use mathlib.Core.Option.{Option, none, some}
 use Rattle.model.specs.Bytes.{field, contains, same_bytes, before, find, first_failing, is_some, or_else, ascii}
 use Rattle.model.specs.Tree.{Tree, Sizes, sizes_of, tree_of, by_kind, is_directory, holds, under}
 use Rattle.model.specs.declared.Verdict.{Verdict}

@@ -1,7 +1,7 @@
 -- A walk's trace: what happens on it, with no restriction applied. Restrictions only read the trace, so all that demand 3
 -- (RULES 12.3) compares is one trace read under two sets of restrictions.
 use Rattle.std.specs.Prelude.{Bool, true, false, cond, List, [], ◌∷◌, ◌++◌}
-use Rattle.std.proofs.Math.Option.{Option, none, some}
+use mathlib.Core.Option.{Option, none, some}
 use Rattle.model.specs.Answers.{refused}
 use Rattle.model.specs.Bytes.{or_else, if_none}
 use Rattle.model.specs.declared.Place.{Place}

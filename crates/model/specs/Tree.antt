@@ -1,7 +1,7 @@
 -- "The table image" (RULES 2): an image is a header and four parts, and stands for a tree. The rules and the walk speak of a tree alone, so that
 -- where its fields stand in the bytes is said here and nowhere else.
 use Rattle.std.specs.Prelude.{ℕ, zero, suc, ◌+◌, ◌-◌, ◌*◌, Bool, cond, ◌&&◌, ◌||◌, List, eqb, ltb, leb}
-use Rattle.std.proofs.Math.Option.{Option}
+use mathlib.Core.Option.{Option}
 use Rattle.model.specs.Bytes.{field, part, find, same_bytes, is_some}
 use Rattle.model.specs.declared.Place.{Place}
 

@@ -1,6 +1,6 @@
 -- "The walk" (RULES 9): its trace, one component at a time.
 use Rattle.std.specs.Prelude.{ℕ, zero, suc, ◌+◌, Bool, true, false, cond, not, ◌&&◌, ◌||◌, List, [], ◌∷◌, ◌++◌, eqb, ltb, length}
-use Rattle.std.proofs.Math.Option.{Option, none, some}
+use mathlib.Core.Option.{Option, none, some}
 use Rattle.model.specs.Bytes.{same_bytes, ascii}
 use Rattle.model.specs.Tree.{Tree, is_directory, is_link, lookup, mount_on}
 use Rattle.model.specs.Answers.{refused, not_walked}

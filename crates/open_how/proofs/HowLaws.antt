@@ -9,7 +9,8 @@ use lib.Dec.{eqb}
 use lib.ListN.{length}
 use Rattle.model.specs.Bytes.{field, has, or_else}
 use Rattle.model.specs.Answers.{refusal, not_walked}
-use Rattle.model.specs.OpenHow.{flags_of, mode_of, padding_of, resolve_of, tail_set, mode_set, length_refused, flags_refused, resolve_refused, scopes_refused, mode_refused, how_refused, BENEATH, IN_ROOT}
+use Rattle.model.specs.OpenHow.{flags_of, mode_of, padding_of, resolve_of, tail_set, mode_set, length_refused}
+use Rattle.model.specs.OpenHow.{flags_refused, resolve_refused, scopes_refused, mode_refused, how_refused, BENEATH, IN_ROOT}
 use Rattle.model.specs.declared.Refusal.{Refusal}
 use Rattle.model.specs.declared.Errno.TheVariants.{Einval, E2big}
 use Rattle.laws.proofs.ByteLaws.{field-split}

@@ -1,6 +1,6 @@
 -- What the checks of an open_how come to: a refusal of the model, or the fields that a walk goes by.
 use Rattle.std.specs.Prelude.{ℕ, List}
-use Rattle.std.proofs.Math.Option.{Option, none, some}
+use mathlib.Core.Option.{Option, none, some}
 use Rattle.model.specs.OpenHow.{flags_of, resolve_of, how_refused}
 use Rattle.model.specs.declared.Refusal.{Refusal}
 use Rattle.open_how.specs.declared.How.{How}

@@ -1,6 +1,6 @@
 -- A search's answer, as the code gives it: a case of its own, or a number.
 use Rattle.std.specs.Prelude.{ℕ}
-use Rattle.std.proofs.Math.Option.{Option, none, some}
+use mathlib.Core.Option.{Option, none, some}
 use Rattle.parts.specs.declared.search.Search.{Search}
 use Rattle.parts.specs.declared.search.Search.TheVariants.{At, Nowhere}
 

@@ -24,7 +24,7 @@ use Rattle.theorems.specs.Bounded.{Bounded}
 use Rattle.theorems.proofs.Bounds.{either-root-inside, every-walk-bounded}
 use Rattle.laws.proofs.Refusals.{Unrefused, unrefused, path-short, relative-inside, rooted-inside}
 use Rattle.parts.specs.declared.records.Counts.{Counts}
-use Rattle.image.specs.Counts.{counts_of, Counted}
+use Rattle.image.specs.Counts.{counts_of}
 use Rattle.image.proofs.CountLaws.{counts}
 use Rattle.request.specs.Walking.{Reading, Walking}
 use Rattle.request.specs.declared.Request.{Request}

@@ -12,8 +12,10 @@ use borrow.Author.Tests.{ltb-true}
 use Rattle.model.specs.Bytes.{field, field_bytes, fields_bytes, join_below, part, contains, same_bytes, before, find, first_failing, ascii}
 use Rattle.model.specs.Tree.{sizes_of, nodes_part, tree_of, is_directory, holds, meets_within, under}
 use Rattle.model.specs.TableCheck.{counts_fit, whole_length, directory_count, sum_below, counts_before, directory_holds, file_holds, symlink_holds, magic_holds, node_holds, rule4, name_holds, follows}
-use Rattle.model.specs.TableCheck.{ascends, stands_in_parent, entry_holds, rule5, point_holds, shares_point, hangs, mount_holds, rule6, target_holds, magic_target_holds, rule7, records_check, table_check}
-use Rattle.model.specs.Build.{Parts, sizes_in, tree_in, records_whole, body_length, body_bytes, text_of, name_at, names_length, body_at, written_sizes, written_length, header_bytes, node_bytes, mount_bytes}
+use Rattle.model.specs.TableCheck.{ascends, stands_in_parent, entry_holds, rule5, point_holds, shares_point, hangs}
+use Rattle.model.specs.TableCheck.{mount_holds, rule6, target_holds, magic_target_holds, rule7, records_check, table_check}
+use Rattle.model.specs.Build.{Parts, sizes_in, tree_in, records_whole, body_length, body_bytes, text_of}
+use Rattle.model.specs.Build.{name_at, names_length, body_at, written_sizes, written_length, header_bytes, node_bytes, mount_bytes}
 use Rattle.model.specs.Build.{entry_bytes, image_of, parts_check}
 use Rattle.model.specs.declared.Verdict.TheVariants.{Accepted, Broken}
 use Rattle.model.proofs.BenchTree.{digit, hex_bytes, hex, bench_nodes, bench_mounts, bench_entries, bench}

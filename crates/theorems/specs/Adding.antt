@@ -1,6 +1,6 @@
 -- Demand 3 (RULES 12.3) in definitions: two calls of the resolver of which the second has restrictions added, and the events of the first.
 use Rattle.std.specs.Prelude.{ℕ, ◌+◌, ◌≤◌, ◌<◌, true, false, cond, ◌||◌, List, [], ◌∷◌, ◌⊎◌, ◌≡◌, length, get_or, set, ltb}
-use Rattle.std.proofs.Math.Option.{Option, none, some}
+use mathlib.Core.Option.{Option, none, some}
 use Rattle.std.specs.Int.Bits.{bit_or}
 use Rattle.model.specs.Bytes.{has, is_some, if_none}
 use Rattle.model.specs.Tree.{tree_of}

@@ -1,6 +1,6 @@
 -- What an absolute path owes to the handle (RULES 7.5, 12.11): nothing, where it is not checked.
 use Rattle.std.specs.Prelude.{ℕ, Bool, true, false, List, [], ◌∷◌, ◌≡◌}
-use Rattle.std.proofs.Math.Option.{none, some}
+use mathlib.Core.Option.{none, some}
 use Rattle.model.specs.Bytes.{has}
 use Rattle.model.specs.Tree.{tree_of}
 use Rattle.model.specs.TableCheck.{table_check}

@@ -1,6 +1,6 @@
 -- What holds of the descriptor table (RULES 17), call by call and between two calls.
 use Rattle.std.specs.Prelude.{ℕ, ◌<◌, Bool, true, false, cond, List, [], map, ◌≡◌, set}
-use Rattle.std.proofs.Math.Option.{none, some}
+use mathlib.Core.Option.{none, some}
 use Rattle.model.specs.Answers.{refusal, not_walked}
 use Rattle.model.specs.TableCheck.{table_check}
 use Rattle.model.specs.Trace.{Event, Restrictions, forbids}

@@ -11,7 +11,9 @@ pub returns-then-x-eq-CLOSED : goal.returns-then-x-eq-CLOSED
 returns-then-x-eq-CLOSED c = search (rules, mark-shut)
 
 pub returns-then-not-is_directory : goal.returns-then-not-is_directory
-returns-then-not-is_directory c = mark-refused _ _ _ c.slot_at-x.ensures _ c.if-x-eq-CLOSED.false c.held-h.ensures c.is_directory.ensures (ap not c.if-not-is_directory.true) c.deny-then-not-is_directory.ensures
+returns-then-not-is_directory c =
+    mark-refused _ _ _ c.slot_at-x.ensures _ c.if-x-eq-CLOSED.false c.held-h.ensures c.is_directory.ensures
+    (ap not c.if-not-is_directory.true) c.deny-then-not-is_directory.ensures
 
 pub number_of-requires : goal.number_of-requires
 number_of-requires c = mark-fits _ _ _ c.slot_at-x.ensures _ c.if-x-eq-CLOSED.false c.held-h.ensures c.is_directory.ensures (ap not c.if-not-is_directory.false)

@@ -14,28 +14,23 @@ put_mounts-requires c = let fit = c.requires in
     (fit.mount_records, omega (arith, all-fits fit))
 
 pub put_entries-requires : goal.put_entries-requires
-put_entries-requires c = let fit =
-    c.requires in
+put_entries-requires c = let fit = c.requires in
     (fit.entry_records, omega (arith, all-fits fit))
 
 pub overflow_add-text_at : goal.overflow_add-text_at
-overflow_add-text_at c = let fit =
-    c.requires in
+overflow_add-text_at c = let fit = c.requires in
     record { fits = omega (arith, bodies-begin fit) }
 
 pub put_names-requires : goal.put_names-requires
-put_names-requires c = let fit =
-    c.requires in
+put_names-requires c = let fit = c.requires in
     (fit.entry_records, fit.names_inside, omega (arith, all-fits fit))
 
 pub overflow_add-text_at-2 : goal.overflow_add-text_at-2
-overflow_add-text_at-2 c = let fit =
-    c.requires in
+overflow_add-text_at-2 c = let fit = c.requires in
     record { fits = omega (arith, bodies-begin fit) }
 
 pub put_bodies-requires : goal.put_bodies-requires
-put_bodies-requires c = let fit =
-    c.requires in
+put_bodies-requires c = let fit = c.requires in
     (fit.node_records, fit.bodies_inside, omega (arith, all-fits fit, names-sum fit))
 
 pub shape_of-out : goal.shape_of-out
