@@ -4,7 +4,7 @@ use mathlib.Core.Bool.{Bool, true, false, not, ◌&&◌, ◌||◌, or-true, or-f
 use mathlib.Core.List.{List, [], ◌∷◌}
 use mathlib.Core.Path.{◌≡◌, refl, sym, ap, ap₂, ◌∙◌}
 use native.Mathlib.Omega.{arith}
-use borrow.Author.Tests.{not-true, not-false}
+use borrow.Author.Tests.{not-true}
 use lib.Dec.{eqb}
 use lib.ListN.{length, get_or, take, drop, length-drop}
 use lib.Seq.{take_all}
@@ -58,13 +58,8 @@ pub of-body : (s : List ℕ) {held : Bool} → held ≡ contains 0 s → held �
 unfolding holds_barred
 of-body s e = e ∙ sym (or-false _)
 
--- whether it holds one, by the kind of record
-module _ (names : Bool) (s : List ℕ) {held : Bool} where
-  pub of-bodies : not names ≡ true → held ≡ contains 0 s → held ≡ holds_barred names s
-  of-bodies n e = rw (not-true names n) (of-body s e)
-
-  pub of-names : not names ≡ false → held ≡ holds_barred true s → held ≡ holds_barred names s
-  of-names n e = rw (not-false names n) e
+pub of-bodies : (names : Bool) (s : List ℕ) {held : Bool} → not names ≡ true → held ≡ contains 0 s → held ≡ holds_barred names s
+of-bodies names s n e = rw (not-true names n) (of-body s e)
 
 -- whether the first bytes of a string hold one, by what each of them is
 pub take-hit : (names : Bool) (s : List ℕ) (n i : ℕ) → i < n → i < length s → barred names (get_or s i 0) ≡ true → holds_barred names (take n s) ≡ true

@@ -1,57 +1,54 @@
 -- What is counted before any rule is judged: whole records, and sums that are taken one record at a time. Assumes nothing.
-use Prim.Native.Nat.{ℕ, suc, ◌+◌, ◌*◌, ◌/◌, ◌≤◌, ◌<◌}
-use mathlib.Core.Bool.{Bool, true, false, ◌||◌, and-false}
+use Rattle.std.specs.List.{fold, sum_by, range_with_len}
+use Prim.Native.Nat.{ℕ, zero, suc, ◌+◌, ◌*◌, ◌/◌, ◌^◌, ◌≤◌, ◌<◌}
+use mathlib.Core.Bool.{Bool, true, false, cond, ◌&&◌, ◌||◌}
 use mathlib.Core.List.{List, []}
-use mathlib.Core.Path.{◌≡◌, refl, sym, ap, ap₂, ◌∙◌, subst}
-use native.Mathlib.Nat.{mul-suc}
+use mathlib.Core.Path.{◌≡◌, refl, sym, ap, ap₂, ◌∙◌}
+use native.Mathlib.Nat.{mul-suc, zero-add, add-zero, le_of_lt}
 use native.Mathlib.Omega.{arith}
-use borrow.Author.Tests.{eq-eqb, ne_eqb, lt-ltb, le-ltb, ltb-true, ltb-false}
+use borrow.Author.Tests.{eq-eqb, ne_eqb, ltb-true, ltb-false}
 use lib.Dec.{eqb, ltb}
-use lib.ListN.{length}
-use Rattle.model.specs.Tree.{name_length_in}
+use lib.ListN.{length, get_or}
+use Rattle.model.specs.Tree.{kind_in, count_in, name_length_in}
 use Rattle.model.specs.TableCheck.{sum_below, whole_length}
 use Rattle.model.specs.Build.{Parts, sizes_in, records_whole, body_length, name_at, names_length, body_at, written_sizes, written_length}
+use Rattle.laws.proofs.ByteLaws.{field_lt}
 use Rattle.laws.proofs.Cases.{neither}
 use Rattle.parts.specs.Parts.{nodes_tree, entries_tree}
 use Rattle.parts.specs.declared.records.Counts.{Counts}
 use Rattle.builder.specs.Counted.{parts_by, counts_in, too_many, FewRecords, lengths_of}
 
--- a sum of which n numbers are added, none above a limit
-pub record Summed (f : ℕ → ℕ) (count most sum n : ℕ) : Type 0 where
-  pub sum_is : sum ≡ sum_below f n
-  pub sum-small : sum ≤ most * n
-  pub within : n ≤ count
+-- what a range's numbers give, added up
+sum-on : (f : ℕ → ℕ) (at n : ℕ) → fold (λ a x. a + f x) (sum_below f at) (range_with_len at n) ≡ sum_below f (at + n)
+unfolding sum_below
+sum-on f at zero = ap (sum_below f) (sym (add-zero at))
+sum-on f at (suc n) =
+    let next : suc at ≡ at + 1 = omega arith in
+    let end : at + 1 + n ≡ at + suc n = omega arith in
+    ap (λ (k : ℕ). fold (λ a x. a + f x) (sum_below f k) (range_with_len (at + 1) n)) next ∙ sum-on f (at + 1) n ∙ ap (sum_below f) end
 
-module _ {f : ℕ → ℕ} {count most : ℕ} where
-  pub summed-none : Summed f count most 0 0
-  unfolding sum_below
-  summed-none = record { sum_is = refl; sum-small = omega arith; within = omega arith }
+pub range-sum : (f : ℕ → ℕ) (n : ℕ) → sum_by f (range_with_len 0 n) ≡ sum_below f n
+unfolding sum_below
+range-sum f n = sum-on f 0 n ∙ ap (sum_below f) (zero-add n)
 
-  module _ {sum n : ℕ} (s : Summed f count most sum n) where
-    pub summed-on : n < count → {r : ℕ} → r ≡ f n → r ≤ most → Summed f count most (sum + r) (n + 1)
-    unfolding sum_below
-    summed-on h {r} is small =
-        let one : n + 1 ≡ suc n = omega arith in
-        let grown : sum + r ≡ sum_below f (suc n) = ap₂ ◌+◌ s.sum_is is in
-        let next : most * (n + 1) ≡ most * n + most = ap (λ (k : ℕ). most * k) one ∙ mul-suc most n in
-        record { sum_is = grown ∙ ap (sum_below f) (sym one); sum-small = omega (arith, s.sum-small, small, next); within = omega arith }
+-- numbers none of which is above a limit
+sum-small : (f : ℕ → ℕ) (most n : ℕ) → ((k : ℕ) → f k ≤ most) → sum_below f n ≤ most * n
+unfolding sum_below
+sum-small f most zero small = omega arith
+sum-small f most (suc n) small = omega (arith, sum-small f most n small, small n, mul-suc most n)
 
-    pub summed-all : count ≤ n → (sum ≡ sum_below f count) × (sum ≤ most * count)
-    summed-all h = let e : n ≡ count = omega (arith, s.within) in
-        (s.sum_is ∙ ap (sum_below f) e, subst (λ (k : ℕ). sum ≤ most * k) e s.sum-small)
+pub names-small : (entries : List ℕ) → ((i : ℕ) → get_or entries i 0 < 256) → (n : ℕ) → sum_below (name_length_in entries) n ≤ 2 ^ 16 * n
+names-small entries bytes n = sum-small (name_length_in entries) (2 ^ 16) n (λ e. le_of_lt (field_lt 2 entries (8 * e + 4) bytes))
+
+pub bodies-small : (c : Counts) (nodes : List ℕ) → ((i : ℕ) → get_or nodes i 0 < 256) → (n : ℕ) → sum_below (body_length (nodes_tree c nodes [])) n ≤ 2 ^ 32 * n
+unfolding body_length
+bodies-small c nodes bytes n = sum-small (body_length (nodes_tree c nodes [])) (2 ^ 32) n (λ k. by (eqb (kind_in nodes k) 3) k)
+  where
+    by : (b : Bool) (k : ℕ) → cond b (count_in nodes k) 0 ≤ 2 ^ 32
+    by true k = le_of_lt (field_lt 4 nodes (12 * k + 8) bytes)
+    by false k = omega arith
 
 -- rule 1 by one kind of records alone
-module _ (c : Counts) where
-  pub many-nodes : 65536 / 12 < c.nodes → true ≡ too_many c
-  many-nodes h = rw (lt-ltb (65536 / 12) c.nodes h)
-
-  pub many-mounts : c.nodes ≤ 65536 / 12 → 65536 / 8 < c.mounts → true ≡ too_many c
-  many-mounts n h = rw (le-ltb (65536 / 12) c.nodes n, lt-ltb (65536 / 8) c.mounts h)
-
-  pub by_entries : c.nodes ≤ 65536 / 12 → c.mounts ≤ 65536 / 8 → ltb (65536 / 8) c.entries ≡ too_many c
-  by_entries n m = rw (le-ltb (65536 / 12) c.nodes n, le-ltb (65536 / 8) c.mounts m)
-
--- and what that comes to
 pub too-many-long : (c : Counts) → too_many c ≡ true → 65536 < 20 + 12 * c.nodes + 8 * c.mounts + 8 * c.entries
 too-many-long c h = by (ltb (65536 / 12) c.nodes) (ltb (65536 / 8) c.mounts) refl refl h
   where
@@ -87,19 +84,18 @@ module _ (nodes mounts entries : List ℕ) {c : Counts} (is : c ≡ counts_in no
     abbrev p : Parts
     p = parts_by nodes mounts entries text
 
+    told : (eqb (length nodes) (12 * c.nodes) && eqb (length mounts) (8 * c.mounts) && eqb (length entries) (8 * c.entries)) ≡ records_whole p
+    unfolding records_whole sizes_in
+    told = ap (λ (x : Counts). eqb (length nodes) (12 * x.nodes) && eqb (length mounts) (8 * x.mounts) && eqb (length entries) (8 * x.entries)) is
+
     pub nodes-cut : (length nodes ≡ 12 * c.nodes → ⊥) → false ≡ records_whole p
-    unfolding records_whole sizes_in
-    nodes-cut h = rw (ne_eqb (length nodes) (12 * (length nodes / 12)) (λ e. h (omega (arith, n-is, e))))
+    nodes-cut h = rw (ne_eqb (length nodes) (12 * c.nodes) h) at told
 
-    pub mounts-cut : (length mounts ≡ 8 * c.mounts → ⊥) → false ≡ records_whole p
-    unfolding records_whole sizes_in
-    mounts-cut h = simp (ne_eqb (length mounts) (8 * (length mounts / 8)) (λ e. h (omega (arith, m-is, e))), and-false)
+    pub mounts-cut : length nodes ≡ 12 * c.nodes → eqb (length mounts) (8 * c.mounts) ≡ false → false ≡ records_whole p
+    mounts-cut n m = rw (eq-eqb (length nodes) (12 * c.nodes) n, m) at told
 
-    pub by-entries-whole : length nodes ≡ 12 * c.nodes → length mounts ≡ 8 * c.mounts → eqb (length entries) (8 * c.entries) ≡ records_whole p
-    unfolding records_whole sizes_in
-    by-entries-whole n m =
-        ap (λ (k : ℕ). eqb (length entries) (8 * k)) e-is
-        ∙ rw (eq-eqb (length nodes) (12 * (length nodes / 12)) (omega (arith, n-is)), eq-eqb (length mounts) (8 * (length mounts / 8)) (omega (arith, m-is)))
+    pub by-entries-whole : length nodes ≡ 12 * c.nodes → eqb (length mounts) (8 * c.mounts) ≡ true → eqb (length entries) (8 * c.entries) ≡ records_whole p
+    by-entries-whole n m = rw (eq-eqb (length nodes) (12 * c.nodes) n, m) at told
 
   pub few-records : too_many c ≡ false → FewRecords c nodes entries
   few-records h =

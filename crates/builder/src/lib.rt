@@ -9,7 +9,7 @@ ghost use Rattle.parts.specs.Parts.{nodes_tree};
 ghost use Rattle.builder.specs.Counted.{parts_by, counts_in, too_many, FewRecords, lengths_of};
 
 use image_writer::{Lengths, body_length, put_image};
-use model::{Built, Verdict};
+use model::{Broken, Unbuilt};
 use parts::records::{Counts, name_length};
 use table::{MOST_IMAGE, check_records, counts_fit};
 
@@ -18,13 +18,7 @@ fn names_length(entries: &[u8], c: Counts) -> usize
     requires { (8 * c.entries ≤ length entries.now) × (c.entries ≤ 8192) }
     ensures { (result ≡ sum_below (name_length_in entries.now) c.entries) × (result ≤ 2 ^ 16 * c.entries) }
 {
-    let mut sum = 0;
-    let mut e = 0;
-    while e < c.entries {
-        sum += name_length(entries, e);
-        e += 1;
-    }
-    sum
+    (0..c.entries).map(|e| name_length(entries, e)).sum()
 }
 
 // How many bytes the bodies of all symbolic links take.
@@ -32,13 +26,7 @@ fn bodies_length(nodes: &[u8], c: Counts) -> usize
     requires { (12 * c.nodes ≤ length nodes.now) × (c.nodes ≤ 8192) }
     ensures { (result ≡ sum_below (body_length (nodes_tree c nodes.now [])) c.nodes) × (result ≤ 2 ^ 32 * c.nodes) }
 {
-    let mut sum = 0;
-    let mut n = 0;
-    while n < c.nodes {
-        sum += body_length(nodes, n);
-        n += 1;
-    }
-    sum
+    (0..c.nodes).map(|n| body_length(nodes, n)).sum()
 }
 
 // How many whole records there are.
@@ -56,13 +44,7 @@ fn count(nodes: &[u8], mounts: &[u8], entries: &[u8]) -> Counts
 fn too_many(c: Counts) -> bool
     ensures { result ≡ too_many c }
 {
-    if MOST_IMAGE / 12 < c.nodes {
-        return true;
-    }
-    if MOST_IMAGE / 8 < c.mounts {
-        return true;
-    }
-    MOST_IMAGE / 8 < c.entries
+    MOST_IMAGE / 12 < c.nodes || MOST_IMAGE / 8 < c.mounts || MOST_IMAGE / 8 < c.entries
 }
 
 fn measure(nodes: &[u8], entries: &[u8], c: Counts) -> Lengths
@@ -84,41 +66,38 @@ fn records_whole(nodes: &[u8], mounts: &[u8], entries: &[u8], c: Counts) -> bool
     requires { c ≡ counts_in nodes.now mounts.now entries.now }
     ensures { (text : List ℕ) → result ≡ records_whole (parts_by nodes.now mounts.now entries.now text) }
 {
-    if nodes.len() != 12 * c.nodes {
-        return false;
-    }
-    if mounts.len() != 8 * c.mounts {
-        return false;
-    }
-    entries.len() == 8 * c.entries
+    nodes.len() == 12 * c.nodes && mounts.len() == 8 * c.mounts && entries.len() == 8 * c.entries
 }
 
 // Nothing is written before the last rule is judged, and the room.
-pub fn build(nodes: &[u8], mounts: &[u8], entries: &[u8], text: &[u8], out: &mut [u8]) -> Built
+pub fn build(
+    nodes: &[u8],
+    mounts: &[u8],
+    entries: &[u8],
+    text: &[u8],
+    out: &mut [u8],
+) -> Result<usize, Unbuilt>
     ensures { (result ≡ built (parts_by nodes.now mounts.now entries.now text.now) (length out.old))
         × (out.new ≡ buffer_after (parts_by nodes.now mounts.now entries.now text.now) out.old) }
 {
     let c = count(nodes, mounts, entries);
     if too_many(c) {
-        return Built::Broken { rule: 1, record: 0 };
+        return Err(Unbuilt::Breaks(Broken { rule: 1, record: 0 }));
     }
     let l = measure(nodes, entries, c);
     if MOST_IMAGE < l.whole {
-        return Built::Broken { rule: 1, record: 0 };
+        return Err(Unbuilt::Breaks(Broken { rule: 1, record: 0 }));
     }
     if !counts_fit(c) {
-        return Built::Broken { rule: 3, record: 0 };
+        return Err(Unbuilt::Breaks(Broken { rule: 3, record: 0 }));
     }
     if !records_whole(nodes, mounts, entries, c) {
-        return Built::Broken { rule: 3, record: 0 };
+        return Err(Unbuilt::Breaks(Broken { rule: 3, record: 0 }));
     }
-    let verdict = check_records(nodes, mounts, entries, text, c);
-    if let Verdict::Broken { rule, record } = verdict {
-        return Built::Broken { rule, record };
-    }
+    check_records(nodes, mounts, entries, text, c)?;
     if out.len() < l.whole {
-        return Built::Short(l.whole);
+        return Err(Unbuilt::Short(l.whole));
     }
     put_image(out, nodes, mounts, entries, text, c, l);
-    Built::Written(l.whole)
+    Ok(l.whole)
 }

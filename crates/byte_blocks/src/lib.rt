@@ -1,8 +1,9 @@
 // Strings compared by blocks of four or eight bytes, each a single load, and long ones by 32 bytes at a time before that. What decides
 // is the first block that differs, or the last one, which may overlap the one before it so that no bytes are left over.
+// A number is read as two halves, at each width by a function of its own: over the width it would be a loop over the bytes, which is no plainer.
 #![tactic(auto)]
 
-ghost use Rattle.std.specs.Prelude.{◌≡◌, ℕ, ◌+◌, ◌^◌, ◌≤◌, ◌<◌, length};
+ghost use Rattle.std.specs.Prelude.{Bool, ◌≡◌, ℕ, ◌+◌, ◌^◌, ◌≤◌, ◌<◌, length};
 ghost use Rattle.byte_blocks.specs.Blocks.{big_endian, reversed, Deciding, differ, first_differing};
 
 use fields::{u32_at, u64_at};
@@ -11,7 +12,7 @@ fn big16_at(s: &[u8], at: usize) -> u64
     requires { at + 2 ≤ length s.now }
     ensures { (result ≡ big_endian 2 s.now at) × (result < 2 ^ 16) }
 {
-    256 * (s[at] as u64) + (s[at + 1] as u64)
+    256 * u64::from(s[at]) + u64::from(s[at + 1])
 }
 
 pub fn big32_at(s: &[u8], at: usize) -> u64
@@ -52,18 +53,34 @@ pub fn deciding_four(a: &[u8], b: &[u8], last: usize) -> usize
     last
 }
 
+// The first block that is told to differ, or the last one. The strings stand in its contract alone.
+fn first_block<const WIDTH: usize, F: Fn(usize) -> bool>(
+    a: &[u8],
+    b: &[u8],
+    last: usize,
+    other: F,
+) -> usize
+    requires within { (0 < WIDTH) × (last + WIDTH ≤ length a.now) × (last + WIDTH ≤ length b.now) }
+    requires called { (i : ℕ) → i < last → F.pre other i }
+    requires told { (i : ℕ) (r : Bool) → i < last → F.post other i r → r ≡ differ WIDTH a.now b.now i }
+    ensures { Deciding WIDTH a.now b.now last result }
+{
+    // A `step_by` costs three instructions more for each block: it tests besides that the next index does not overflow.
+    let mut i = 0;
+    while i < last {
+        if other(i) {
+            return i;
+        }
+        i += WIDTH;
+    }
+    last
+}
+
 pub fn deciding_eight(a: &[u8], b: &[u8], last: usize) -> usize
     requires { (last + 8 ≤ length a.now) × (last + 8 ≤ length b.now) }
     ensures { Deciding 8 a.now b.now last result }
 {
-    let mut i = 0;
-    while i < last {
-        if u64_at(a, i) != u64_at(b, i) {
-            return i;
-        }
-        i += 8;
-    }
-    last
+    first_block::<8, _>(a, b, last, |i| u64_at(a, i) != u64_at(b, i))
 }
 
 // Whether the 32 bytes from `i` on differ. No early exit and always 32 steps: a few vector instructions, with nothing to set up.
@@ -72,12 +89,10 @@ fn differs(a: &[u8], b: &[u8], i: usize) -> bool
     ensures { result ≡ differ 32 a.now b.now i }
 {
     let mut found = false;
-    let mut k = i;
-    while k < i + 32 {
+    for k in i..i + 32 {
         if a[k] != b[k] {
             found = true;
         }
-        k += 1;
     }
     found
 }
@@ -86,14 +101,7 @@ fn deciding_thirty_two(a: &[u8], b: &[u8], last: usize) -> usize
     requires { (last + 32 ≤ length a.now) × (last + 32 ≤ length b.now) }
     ensures { Deciding 32 a.now b.now last result }
 {
-    let mut i = 0;
-    while i < last {
-        if differs(a, b, i) {
-            return i;
-        }
-        i += 32;
-    }
-    last
+    first_block::<32, _>(a, b, last, |i| differs(a, b, i))
 }
 
 // Of the 32 bytes at `at` the first block of eight that differs, or the last of the four.

@@ -1,16 +1,13 @@
--- A check's answer tells the refusal that it stands for. Assumes nothing.
-use Prim.Native.Nat.{ℕ}
-use mathlib.Core.Option.{Option, none, some}
+-- What a check comes to tells the refusal that it stands for. Assumes nothing.
+use Rattle.std.specs.Prelude.{Option, None, Some, Ok, Err}
 use mathlib.Core.Path.{◌≡◌, refl}
-use native.Mathlib.Omega.{arith}
 use Rattle.model.specs.declared.Refusal.{Refusal}
-use Rattle.checks.specs.Checks.{check_of}
-use Rattle.checks.specs.declared.Check.TheVariants.{Passes, Refused}
+use Rattle.checks.specs.Checks.{ok_unless}
 
-pub passed : (o : Option Refusal) → check_of o ≡ Passes → o ≡ none
-passed none e = refl
-passed (some r) e = let z : ◌≡◌ {A = ℕ} 0 1 = cc in absurd (omega arith)
+pub passed : {A : Type 0} (o : Option Refusal) (a : A) {b : A} → ok_unless o a ≡ Ok b → (o ≡ None) × (b ≡ a)
+passed None a e = (refl, cc)
+passed (Some r) a e = cc
 
-pub stopped : (o : Option Refusal) (r : Refusal) → check_of o ≡ Refused r → o ≡ some r
-stopped none r e = let z : ◌≡◌ {A = ℕ} 0 1 = cc in absurd (omega arith)
-stopped (some q) r e = cc
+pub stopped : {A : Type 0} (o : Option Refusal) (a : A) (r : Refusal) → ok_unless o a ≡ Err r → o ≡ Some r
+stopped None a r e = cc
+stopped (Some q) a r e = cc

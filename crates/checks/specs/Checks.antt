@@ -1,10 +1,15 @@
--- A check before the walk: a refusal of the model, or none.
-use mathlib.Core.Option.{Option, none, some}
+-- What a check before the walk comes to: a refusal of the model, or what the call goes on with.
+use Rattle.std.specs.Prelude.{Option, None, Some, Result, Ok, Err}
 use Rattle.model.specs.declared.Refusal.{Refusal}
-use Rattle.checks.specs.declared.Check.{Check}
-use Rattle.checks.specs.declared.Check.TheVariants.{Passes, Refused}
 
--- a check's answer, as the code gives it
-abbrev pub check_of : Option Refusal → Check
-check_of none = Passes
-check_of (some r) = Refused r
+-- what a call goes on with, unless there is a refusal
+abbrev pub ok_unless : {A : Type 0} → Option Refusal → A → Result A Refusal
+ok_unless None a = Ok a
+ok_unless (Some r) a = Err r
+
+-- a check alone
+abbrev pub check_of : Option Refusal → Result Unit Refusal
+check_of o = ok_unless o tt
+
+abbrev pub passes : Result Unit Refusal
+passes = Ok tt

@@ -1,10 +1,10 @@
 -- Following a link, by what was read: the first restriction that forbids one of its events decides. Assumes nothing.
+use Rattle.std.specs.Prelude.{None, Some}
 use Prim.Native.Nat.{ℕ, ◌+◌, ◌≤◌, ◌<◌}
 use mathlib.Core.Bool.{Bool, true, false, cond, not, ◌&&◌, ◌||◌}
 use mathlib.Core.List.{List}
-use mathlib.Core.Option.{some, none}
 use mathlib.Core.Path.{◌≡◌, refl, sym, ap, ap₂, ◌∙◌}
-use borrow.Author.Tests.{eq-eqb, ne_eqb, not-true, not-false}
+use borrow.Author.Tests.{not-true, not-false}
 use lib.Dec.{eqb, ltb}
 use Rattle.model.specs.Bytes.{has, or_else}
 use Rattle.model.specs.OpenHow.{NO_XDEV, NO_MAGICLINKS, NO_SYMLINKS, BENEATH, IN_ROOT}
@@ -28,7 +28,7 @@ use Rattle.component.proofs.RowLaws.{link_row, magic-row, jump-row}
 
 -- the rows' entries, from left to right, and then where the link leads
 magic-choice : (a b c d e f : Bool) (t : Place)
-    → stop_or (or_else (cond a (some Eloop) none) (or_else (cond b (some Enoent) (cond c (some Eloop) (cond d (some Exdev) (cond e (some Exdev) none)))) none))
+    → stop_or (or_else (cond a (Some Eloop) None) (or_else (cond b (Some Enoent) (cond c (Some Eloop) (cond d (Some Exdev) (cond e (Some Exdev) None)))) None))
     (landing_outcome (cond f outside (target t)))
     ≡ cond a (Stop Eloop) (cond b (Stop Enoent) (cond c (Stop Eloop) (cond d (Stop Exdev) (cond e (Stop Exdev) (cond f (Stop Exdev) (Target t))))))
 magic-choice true b c d e f t = refl
@@ -40,7 +40,7 @@ magic-choice false false false false false true t = refl
 magic-choice false false false false false false t = refl
 
 jump-choice : (b c d : Bool) (o : Outcome)
-    → stop_or (or_else (cond b (some Enoent) (cond c (some Exdev) (cond d (some Exdev) none))) none) o ≡ cond b (Stop Enoent) (cond c (Stop Exdev) (cond d (Stop Exdev) o))
+    → stop_or (or_else (cond b (Some Enoent) (cond c (Some Exdev) (cond d (Some Exdev) None))) None) o ≡ cond b (Stop Enoent) (cond c (Stop Exdev) (cond d (Stop Exdev) o))
 jump-choice true c d o = refl
 jump-choice false true d o = refl
 jump-choice false false true o = refl
@@ -175,11 +175,3 @@ symbolic-kind magic e m = e ∙ ap link_kind m
 pub body-held : {image : List ℕ} {c : Counts} {k : Request} (n : ℕ) → Walking image c k → n < (tree_of image).nodes → (tree_of image).kind n ≡ 3
     → (tree_of image).first n + (tree_of image).count n ≤ (tree_of image).text_length
 body-held {image} n walking below e = (symlink-facts (accepted-sound image walking.reading.accepted).nodes_hold n below e).0
-
--- another mount under NO_XDEV
-module _ (m n bits : ℕ) where
-  pub mount-same : m ≡ n → false ≡ not (eqb m n) && has NO_XDEV bits
-  mount-same e = rw (eq-eqb m n e)
-
-  pub mount-other : {bar : Bool} → (m ≡ n → ⊥) → bar ≡ has NO_XDEV bits → bar ≡ not (eqb m n) && has NO_XDEV bits
-  mount-other d is = is ∙ rw (ne_eqb m n d)

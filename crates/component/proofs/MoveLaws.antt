@@ -1,11 +1,11 @@
 -- Moves under the restrictions, by what was read: entering a mount, and "..". Assumes nothing.
+use Rattle.std.specs.Prelude.{Some, Option, None}
 use Prim.Native.Nat.{ℕ, ◌<◌}
-use mathlib.Core.Bool.{Bool, true, false, not}
+use mathlib.Core.Bool.{Bool, true, false, ◌&&◌}
 use mathlib.Core.List.{List}
-use mathlib.Core.Option.{some}
 use mathlib.Core.Path.{◌≡◌, sym, ap, ap₂, ◌∙◌, subst}
 use native.Mathlib.Omega.{arith}
-use borrow.Author.Tests.{eq-eqb, ne_eqb, not-true, not-false}
+use borrow.Author.Tests.{eq-eqb, ne_eqb}
 use lib.Dec.{eqb}
 use Rattle.model.specs.Bytes.{has}
 use Rattle.model.specs.OpenHow.{NO_XDEV, BENEATH}
@@ -17,37 +17,27 @@ use Rattle.model.specs.declared.Place.{Place}
 use Rattle.model.specs.declared.Errno.TheVariants.{Enoent, Exdev}
 use Rattle.laws.specs.Acceptance.{Sound}
 use Rattle.laws.proofs.Acceptance.{accepted-sound, parent-directory, directory-below, point-directory, mount-parent-below, mount-on-below}
-use Rattle.parts.specs.Searches.{search_of}
 use Rattle.parts.specs.declared.records.Counts.{Counts}
-use Rattle.parts.specs.declared.search.Search.{Search}
-use Rattle.parts.specs.declared.search.Search.TheVariants.{At, Nowhere}
-use Rattle.parts.proofs.SearchLaws.{search-at, search-nowhere}
 use Rattle.request.specs.Requests.{request_for, restrictions_for}
-use Rattle.request.specs.Walking.{Reading}
+use Rattle.tree.specs.Reading.{Reading}
 use Rattle.request.specs.declared.Request.{Request}
 use Rattle.component.specs.Outcomes.{move_outcome, MovesUnder, up_from}
 use Rattle.component.specs.declared.Outcome.{Outcome}
 use Rattle.component.specs.declared.Outcome.TheVariants.{Stop, Go}
 
--- two places
-module _ (p q : Place) where
-  pub other-mount : (p.mount ≡ q.mount → ⊥) → false ≡ same_place p q
-  unfolding same_place
-  other-mount n = rw (ne_eqb p.mount q.mount n)
-
-  pub one-mount : p.mount ≡ q.mount → eqb p.node q.node ≡ same_place p q
-  unfolding same_place
-  one-mount e = rw (eq-eqb p.mount q.mount e)
+-- whether two places are the same, as `==` tells it
+abbrev same : Place → Place → Bool
+same p q = eqb p.mount q.mount && eqb p.node q.node
 
 -- the mount that covers a place
-module _ (t : Tree) (p : Place) (bits : ℕ) {found : Search} (found-is : found ≡ search_of (mount_on t p)) where
-  pub uncovered : found ≡ Nowhere → MovesUnder bits (enter t p) (Go p)
+module _ (t : Tree) (p : Place) (bits : ℕ) {found : Option ℕ} (found-is : found ≡ mount_on t p) where
+  pub uncovered : found ≡ None → MovesUnder bits (enter t p) (Go p)
   unfolding enter forbid_any
-  uncovered e mark = rw (search-nowhere (mount_on t p) (sym found-is ∙ e))
+  uncovered e mark = rw (sym found-is ∙ e)
 
-  module _ {m : ℕ} (at : found ≡ At m) where
-    covers : mount_on t p ≡ some m
-    covers = search-at (mount_on t p) m (sym found-is ∙ at)
+  module _ {m : ℕ} (at : found ≡ Some m) where
+    covers : mount_on t p ≡ Some m
+    covers = sym found-is ∙ at
 
     pub cover-below : m < t.mounts
     cover-below = (mount-on-below t p m covers).1
@@ -118,39 +108,39 @@ module _ (image : List ℕ) (k : Request) (p : Place) where
   Gone = move_outcome (restrictions_for k) (go_up (request_for image k) p)
 
   -- at the root, or mount 0's root, it stays
-  module _ {home : Bool} (home-is : home ≡ same_place p k.root) where
+  module _ {home : Bool} (home-is : home ≡ same p k.root) where
     pub up_root : home ≡ true → Go p ≡ Up
-    unfolding at_top forbid_any
+    unfolding at_top same_place forbid_any
     up_root e = rw (sym home-is ∙ e)
 
-    module _ (away : home ≡ false) {root : ℕ} (root_is : root ≡ (tree_of image).mount_root 0) {top : Bool} (top-is : top ≡ same_place p (place_at 0 root)) where
-      at_zero : top ≡ same_place p (place_at 0 ((tree_of image).mount_root 0))
-      at_zero = top-is ∙ ap (λ (n : ℕ). same_place p (place_at 0 n)) root_is
+    module _ (away : home ≡ false) {root : ℕ} (root_is : root ≡ (tree_of image).mount_root 0) {top : Bool} (top-is : top ≡ same p (place_at 0 root)) where
+      at_zero : top ≡ same p (place_at 0 ((tree_of image).mount_root 0))
+      at_zero = top-is ∙ ap (λ (n : ℕ). same p (place_at 0 n)) root_is
 
       pub up_top : top ≡ true → Go p ≡ Up
-      unfolding at_top root_of forbid_any
+      unfolding at_top same_place root_of forbid_any
       up_top e = rw (sym home-is ∙ away, sym at_zero ∙ e)
 
       pub up-climbs : {r : Outcome} → top ≡ false → MovesUnder k.resolve (climb (tree_of image) p) r → r ≡ Up
-      unfolding at_top root_of
+      unfolding at_top same_place root_of
       up-climbs e up = up k.mark ∙ rw (sym home-is ∙ away, sym at_zero ∙ e)
 
   -- at the handle's place it escapes
-  module _ {here : Bool} (here-is : here ≡ same_place p k.handle) where
-    pub up-elsewhere : {r : Outcome} → not here ≡ true → r ≡ Up → r ≡ Gone
-    unfolding go_up
-    up-elsewhere n e = e ∙ rw (sym here-is ∙ not-true _ n)
+  module _ {home : Bool} (home-is : home ≡ same p k.handle) where
+    pub up-elsewhere : {r : Outcome} → home ≡ false → r ≡ Up → r ≡ Gone
+    unfolding go_up same_place
+    up-elsewhere n e = e ∙ rw (sym home-is ∙ n)
 
-    module _ (at-handle : not here ≡ false) where
+    module _ (at-handle : home ≡ true) where
       pub up-marked : k.mark ≡ true → Stop Enoent ≡ Gone
-      unfolding go_up forbid_any forbids row first_set
-      up-marked e = rw (sym here-is ∙ not-false _ at-handle, e)
+      unfolding go_up same_place forbid_any forbids row first_set
+      up-marked e = rw (sym home-is ∙ at-handle, e)
 
       module _ (unmarked : k.mark ≡ false) {scope : Bool} (scope-is : scope ≡ has BENEATH k.resolve) where
         pub up-beneath : scope ≡ true → Stop Exdev ≡ Gone
-        unfolding go_up forbid_any forbids row first_set
-        up-beneath e = rw (sym here-is ∙ not-false _ at-handle, unmarked, sym scope-is ∙ e)
+        unfolding go_up same_place forbid_any forbids row first_set
+        up-beneath e = rw (sym home-is ∙ at-handle, unmarked, sym scope-is ∙ e)
 
         pub up-open : {r : Outcome} → scope ≡ false → r ≡ Up → r ≡ Gone
-        unfolding go_up forbid_any forbids row first_set
-        up-open e u = u ∙ simp (sym here-is ∙ not-false _ at-handle, unmarked, sym scope-is ∙ e)
+        unfolding go_up same_place forbid_any forbids row first_set
+        up-open e u = u ∙ simp (sym home-is ∙ at-handle, unmarked, sym scope-is ∙ e)

@@ -1,5 +1,6 @@
 -- A name and the node that it names: by its kind, what is no directory and no followed link is stood on; a followed link is followed.
 -- Assumes nothing.
+use Rattle.std.specs.Prelude.{Option, None, Some}
 use Prim.Native.Nat.{ℕ, ◌≤◌, ◌<◌}
 use mathlib.Core.Bool.{Bool, true, false, not, ◌&&◌, ◌||◌, and-false}
 use mathlib.Core.List.{List}
@@ -15,13 +16,10 @@ use Rattle.model.specs.declared.Errno.TheVariants.{Enoent, Enametoolong}
 use Rattle.laws.specs.Acceptance.{Sound, MountsHold}
 use Rattle.laws.proofs.Acceptance.{accepted-sound, lookup-inside, entry-facts}
 use Rattle.laws.proofs.EntryLaws.{not-directory}
-use Rattle.parts.specs.Searches.{search_of}
 use Rattle.parts.specs.declared.records.Counts.{Counts}
-use Rattle.parts.specs.declared.search.Search.{Search}
-use Rattle.parts.specs.declared.search.Search.TheVariants.{At, Nowhere}
-use Rattle.parts.proofs.SearchLaws.{search-at, search-nowhere}
 use Rattle.request.specs.Requests.{request_for, restrictions_for}
-use Rattle.request.specs.Walking.{Reading, Walking}
+use Rattle.request.specs.Walking.{Walking}
+use Rattle.tree.specs.Reading.{Reading}
 use Rattle.request.specs.declared.Request.{Request}
 use Rattle.component.specs.Outcomes.{MovesUnder, outcome, link_kind}
 use Rattle.component.specs.declared.Outcome.{Outcome}
@@ -97,27 +95,27 @@ module _ (image : List ℕ) (k : Request) (last : Bool) (links : ℕ) (p : Place
   unfolding by_name
   name-long h = rw (lt-ltb 255 (length name) h)
 
-  module _ (short : length name ≤ 255) {found : Search} (found-is : found ≡ search_of (lookup (tree_of image) p.node name)) where
-    pub name-nowhere : found ≡ Nowhere → Stop Enoent ≡ Named
+  module _ (short : length name ≤ 255) {found : Option ℕ} (found-is : found ≡ (lookup (tree_of image) p.node name)) where
+    pub name-nowhere : found ≡ None → Stop Enoent ≡ Named
     unfolding by_name
-    name-nowhere e = rw (le-ltb 255 (length name) short, search-nowhere (lookup (tree_of image) p.node name) (sym found-is ∙ e))
+    name-nowhere e = rw (le-ltb 255 (length name) short, (sym found-is ∙ e))
 
-    pub name-leads : {e n : ℕ} {r : Outcome} → found ≡ At e → n ≡ (tree_of image).entry_node e
+    pub name-leads : {e n : ℕ} {r : Outcome} → found ≡ Some e → n ≡ (tree_of image).entry_node e
         → r ≡ outcome (restrictions_for k) links (step_to (request_for image k) last p n) → r ≡ Named
     unfolding by_name
     name-leads at node-is is =
         is ∙ ap (λ (m : ℕ). outcome (restrictions_for k) links (step_to (request_for image k) last p m)) node-is
-        ∙ rw (le-ltb 255 (length name) short, search-at (lookup (tree_of image) p.node name) _ (sym found-is ∙ at))
+        ∙ rw (le-ltb 255 (length name) short, (sym found-is ∙ at))
 
 -- its entry and its node
-module _ (image : List ℕ) {c : Counts} (reading : Reading image c) (n : ℕ) (on : is_directory (tree_of image) n ≡ true) (name : List ℕ) {found : Search}
-    (found-is : found ≡ search_of (lookup (tree_of image) n name)) {e : ℕ} (at : found ≡ At e) where
+module _ (image : List ℕ) {c : Counts} (reading : Reading image c) (n : ℕ) (on : is_directory (tree_of image) n ≡ true) (name : List ℕ) {found : Option ℕ}
+    (found-is : found ≡ (lookup (tree_of image) n name)) {e : ℕ} (at : found ≡ Some e) where
   sound : Sound (tree_of image)
   sound = accepted-sound image reading.accepted
 
   pub entry-below : e < (tree_of image).entries
   entry-below =
-      lookup-inside (tree_of image) sound.nodes_hold.directories_hold n name e on (search-at (lookup (tree_of image) n name) e (sym found-is ∙ at))
+      lookup-inside (tree_of image) sound.nodes_hold.directories_hold n name e on (sym found-is ∙ at)
 
   pub named-below : {m : ℕ} → m ≡ (tree_of image).entry_node e → m < (tree_of image).nodes
   named-below is = omega (arith, is, (entry-facts (tree_of image) sound e entry-below).1)

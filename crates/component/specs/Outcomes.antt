@@ -1,6 +1,5 @@
 -- One component under restrictions: what the definitions' step comes to once the restrictions have read its events.
-use Rattle.std.specs.Prelude.{ℕ, Bool, cond, ◌≡◌, ltb}
-use mathlib.Core.Option.{Option, none, some}
+use Rattle.std.specs.Prelude.{ℕ, Bool, cond, ◌≡◌, ltb, Option, None, Some}
 use Rattle.model.specs.Trace.{Restrictions, forbid_any}
 use Rattle.model.specs.Walk.{Request, Move, stay_at, climb, at_top, Landing, outside, target, reading, Step, fail, go, follow}
 use Rattle.model.specs.declared.Place.{Place}
@@ -11,8 +10,8 @@ use Rattle.component.specs.declared.Outcome.{Outcome}
 use Rattle.component.specs.declared.Outcome.TheVariants.{Stop, Go, Target, Read}
 
 abbrev pub stop_or : Option Errno → Outcome → Outcome
-stop_or none o = o
-stop_or (some e) o = Stop e
+stop_or None o = o
+stop_or (Some e) o = Stop e
 
 -- a move under restrictions
 abbrev pub move_outcome : Restrictions → Move → Outcome

@@ -2,92 +2,80 @@
 ghost use Rattle.std.specs.Prelude.{not, ◌&&◌, ◌||◌, eqb, ltb, ◌≡◌, ◌<◌};
 ghost use Rattle.model.specs.Bytes.{has};
 ghost use Rattle.model.specs.OpenHow.{NO_XDEV};
-ghost use Rattle.model.specs.Tree.{tree_of};
+ghost use Rattle.image.specs.Images.{tree};
 ghost use Rattle.model.specs.Walk.{magic_link, symbolic_link, step_to};
-ghost use Rattle.request.specs.Requests.{request_for, restrictions_for};
+ghost use Rattle.request.specs.Scopes.{asked, limits};
 ghost use Rattle.component.specs.Outcomes.{outcome, unlimited, link_kind};
-ghost use Rattle.laws.specs.Acceptance.{Sized};
-ghost use Rattle.request.specs.Walking.{Walking};
 
 use crate::Outcome;
-use image::records::{node_count, node_first};
-use image::texts::body;
 use model::{Errno, MOST_LINKS, Place};
 use open_how::{BENEATH, IN_ROOT, NO_MAGICLINKS, NO_SYMLINKS, NO_XDEV, has};
-use parts::records::Counts;
-use request::Request;
+use request::Scope;
 use text::is_absolute;
 
 // Whether NO_XDEV bars the way between two mounts that are not the same.
 fn barred(resolve: u64, m: usize, n: usize) -> bool
     ensures { result ≡ not (eqb m n) && has NO_XDEV resolve }
 {
-    if m == n {
-        return false;
-    }
-    has(NO_XDEV, resolve)
+    m != n && has(NO_XDEV, resolve)
 }
 
 // Events Link and Magic, then the target; under IN_ROOT it is refused.
-fn follow_magic(image: &[u8], k: Request, p: Place, n: usize) -> Outcome
-    requires { Sized image.now × (n < (tree_of image.now).nodes) }
-    ensures { result ≡ unlimited (restrictions_for k) (magic_link (request_for image.now k) p n) }
+fn follow_magic(k: Scope<'_>, p: Place, n: usize) -> Outcome
+    requires { n < (tree k.table.image).nodes }
+    ensures { result ≡ unlimited (limits k.entry) (magic_link (asked k.entry) p n) }
 {
-    if has(NO_SYMLINKS, k.resolve) {
+    if has(NO_SYMLINKS, k.request.resolve) {
         return Outcome::Stop(Errno::Eloop);
     }
-    if k.mark {
+    if k.request.mark {
         return Outcome::Stop(Errno::Enoent);
     }
-    if has(NO_MAGICLINKS, k.resolve) {
+    if has(NO_MAGICLINKS, k.request.resolve) {
         return Outcome::Stop(Errno::Eloop);
     }
-    let mount = node_first(image, n);
-    if barred(k.resolve, mount, p.mount) {
+    let mount = k.table.image.node_first(n);
+    if barred(k.request.resolve, mount, p.mount) {
         return Outcome::Stop(Errno::Exdev);
     }
-    if has(BENEATH, k.resolve) {
+    if has(BENEATH, k.request.resolve) {
         return Outcome::Stop(Errno::Exdev);
     }
-    if has(IN_ROOT, k.resolve) {
+    if has(IN_ROOT, k.request.resolve) {
         return Outcome::Stop(Errno::Exdev);
     }
-    let node = node_count(image, n);
+    let node = k.table.image.node_count(n);
     Outcome::Target(Place { mount, node })
 }
 
 // Events Link and, for a body that starts with a slash, Jump; then the body, from the root or from where the link is named.
-fn follow_symbolic(image: &[u8], c: Counts, k: Request, p: Place, n: usize) -> Outcome
-    requires { Walking image.now c k × (n < (tree_of image.now).nodes) × ((tree_of image.now).kind n ≡ 3) }
-    ensures { result ≡ unlimited (restrictions_for k) (symbolic_link (request_for image.now k) p n) }
+fn follow_symbolic(k: Scope<'_>, p: Place, n: usize) -> Outcome
+    requires { (n < (tree k.table.image).nodes) × ((tree k.table.image).kind n ≡ 3) }
+    ensures { result ≡ unlimited (limits k.entry) (symbolic_link (asked k.entry) p n) }
 {
-    if has(NO_SYMLINKS, k.resolve) {
+    if has(NO_SYMLINKS, k.request.resolve) {
         return Outcome::Stop(Errno::Eloop);
     }
-    if !is_absolute(body(image, c, n)) {
+    if !is_absolute(k.table.image.body(n)) {
         return Outcome::Read(n, p);
     }
-    if k.mark {
+    if k.request.mark {
         return Outcome::Stop(Errno::Enoent);
     }
-    if has(BENEATH, k.resolve) {
+    if has(BENEATH, k.request.resolve) {
         return Outcome::Stop(Errno::Exdev);
     }
-    let root = k.root;
-    if barred(k.resolve, p.mount, root.mount) {
+    if barred(k.request.resolve, p.mount, k.request.root.mount) {
         return Outcome::Stop(Errno::Exdev);
     }
-    Outcome::Read(n, root)
+    Outcome::Read(n, k.request.root)
 }
 
 // "A link that is not last, or is last and followed" (RULES 9.10)
 fn is_followed(last: bool, follow: bool) -> bool
     ensures { result ≡ not last || follow }
 {
-    if last {
-        return follow;
-    }
-    true
+    !last || follow
 }
 
 // The 41st link of a walk is refused before any of its events.
@@ -98,30 +86,18 @@ fn is_spent(links: usize) -> bool
 }
 
 // A link, magic or symbolic: followed, or a place to stand on.
-pub fn link_to(
-    image: &[u8],
-    c: Counts,
-    k: Request,
-    last: bool,
-    links: usize,
-    p: Place,
-    n: usize,
-    magic: bool,
-) -> Outcome
-    requires { Walking image.now c k × (n < (tree_of image.now).nodes) × ((tree_of image.now).kind n ≡ link_kind magic) }
-    ensures { result ≡ outcome (restrictions_for k) links (step_to (request_for image.now k) last p n) }
+pub fn link_to(k: Scope<'_>, last: bool, links: usize, p: Place, n: usize, magic: bool) -> Outcome
+    requires { (n < (tree k.table.image).nodes) × ((tree k.table.image).kind n ≡ link_kind magic) }
+    ensures { result ≡ outcome (limits k.entry) links (step_to (asked k.entry) last p n) }
 {
-    if !is_followed(last, k.follow) {
-        return Outcome::Go(Place {
-            mount: p.mount,
-            node: n,
-        });
+    if !is_followed(last, k.request.follow) {
+        return Outcome::Go(Place { node: n, ..p });
     }
     if is_spent(links) {
         return Outcome::Stop(Errno::Eloop);
     }
     if magic {
-        return follow_magic(image, k, p, n);
+        return follow_magic(k, p, n);
     }
-    follow_symbolic(image, c, k, p, n)
+    follow_symbolic(k, p, n)
 }

@@ -1,127 +1,96 @@
 // Moves with no link in them: entering a mount, and ".." (RULES 9.8, 9.11).
 ghost use Rattle.std.specs.Prelude.{true, ◌≡◌, ◌<◌};
-ghost use Rattle.model.specs.Tree.{tree_of, is_directory};
-ghost use Rattle.model.specs.Walk.{same_place, enter, to_parent, climb, go_up};
+ghost use Rattle.model.specs.Tree.{is_directory};
+ghost use Rattle.image.specs.Images.{tree};
+ghost use Rattle.model.specs.Walk.{enter, to_parent, climb, go_up};
 ghost use Rattle.laws.specs.Inside.{Inside};
-ghost use Rattle.request.specs.Requests.{request_for, restrictions_for};
+ghost use Rattle.request.specs.Scopes.{asked, limits};
 ghost use Rattle.component.specs.Outcomes.{move_outcome, MovesUnder, up_from};
-ghost use Rattle.request.specs.Walking.{Reading, Walking};
 
 use crate::Outcome;
-use image::records::{mount_parent, mount_point, mount_root, node_parent};
 use model::{Errno, Place};
 use open_how::{BENEATH, NO_XDEV, has};
-use parts::records::Counts;
-use parts::search::Search;
-use request::Request;
-use tree::find_mount;
-
-fn same_place(p: Place, q: Place) -> bool
-    ensures { result ≡ same_place p q }
-{
-    if p.mount != q.mount {
-        return false;
-    }
-    p.node == q.node
-}
+use request::Scope;
+use tree::{Table, find_mount};
 
 // Enters the mount that covers a place, if there is one.
-pub fn enter(image: &[u8], c: Counts, resolve: u64, p: Place) -> Outcome
-    requires { Reading image.now c × Inside (tree_of image.now) p }
-    ensures { MovesUnder resolve (enter (tree_of image.now) p) result }
+pub fn enter(t: Table<'_>, resolve: u64, p: Place) -> Outcome
+    requires { Inside (tree t.image) p }
+    ensures { MovesUnder resolve (enter (tree t.entry.image) p) result }
 {
-    let found = find_mount(image, c, p.mount, p.node);
-    match found {
-        Search::At(m) => {
+    match find_mount(t, p.mount, p.node) {
+        Some(m) => {
             if has(NO_XDEV, resolve) {
                 return Outcome::Stop(Errno::Exdev);
             }
-            let root = mount_root(image, c, m);
             Outcome::Go(Place {
                 mount: m,
-                node: root,
+                node: t.image.mount_root(m),
             })
         }
-        Search::Nowhere => Outcome::Go(p),
+        None => Outcome::Go(p),
     }
 }
 
-fn to_parent(image: &[u8], c: Counts, resolve: u64, p: Place) -> Outcome
-    requires { Reading image.now c × (p.mount < (tree_of image.now).mounts) × (is_directory (tree_of image.now) p.node ≡ true) }
-    ensures { MovesUnder resolve (to_parent (tree_of image.now) p) result }
+fn to_parent(t: Table<'_>, resolve: u64, p: Place) -> Outcome
+    requires { (p.mount < (tree t.image).mounts) × (is_directory (tree t.image) p.node ≡ true) }
+    ensures { MovesUnder resolve (to_parent (tree t.entry.image) p) result }
 {
-    let parent = node_parent(image, p.node);
-    enter(
-        image,
-        c,
-        resolve,
-        Place {
-            mount: p.mount,
-            node: parent,
-        },
-    )
+    let parent = Place {
+        node: t.image.node_parent(p.node),
+        ..p
+    };
+    enter(t, resolve, parent)
 }
 
 // At a mount's root the climb to its point comes first.
-fn climb(image: &[u8], c: Counts, resolve: u64, p: Place) -> Outcome
-    requires { Reading image.now c × (p.mount < (tree_of image.now).mounts) × (is_directory (tree_of image.now) p.node ≡ true) }
-    ensures { MovesUnder resolve (climb (tree_of image.now) p) result }
+fn climb(t: Table<'_>, resolve: u64, p: Place) -> Outcome
+    requires { (p.mount < (tree t.image).mounts) × (is_directory (tree t.image) p.node ≡ true) }
+    ensures { MovesUnder resolve (climb (tree t.entry.image) p) result }
 {
-    if p.node != mount_root(image, c, p.mount) {
-        return to_parent(image, c, resolve, p);
+    if p.node != t.image.mount_root(p.mount) {
+        return to_parent(t, resolve, p);
     }
     if has(NO_XDEV, resolve) {
         return Outcome::Stop(Errno::Exdev);
     }
-    let parent = mount_parent(image, c, p.mount);
-    let point = mount_point(image, c, p.mount);
-    to_parent(
-        image,
-        c,
-        resolve,
-        Place {
-            mount: parent,
-            node: point,
-        },
-    )
+    let point = Place {
+        mount: t.image.mount_parent(p.mount),
+        node: t.image.mount_point(p.mount),
+    };
+    to_parent(t, resolve, point)
 }
 
 // At the root, or mount 0's root, ".." stays.
-fn up_from(image: &[u8], c: Counts, k: Request, p: Place) -> Outcome
-    requires { Walking image.now c k × (p.mount < (tree_of image.now).mounts) × (is_directory (tree_of image.now) p.node ≡ true) }
-    ensures { result ≡ move_outcome (restrictions_for k) (up_from (request_for image.now k) p) }
+fn up_from(k: Scope<'_>, p: Place) -> Outcome
+    requires { (p.mount < (tree k.table.image).mounts) × (is_directory (tree k.table.image) p.node ≡ true) }
+    ensures { result ≡ move_outcome (limits k.entry) (up_from (asked k.entry) p) }
 {
-    let root = k.root;
-    if same_place(p, root) {
+    if p == k.request.root {
         return Outcome::Go(p);
     }
-    let top = mount_root(image, c, 0);
-    if same_place(
-        p,
-        Place {
-            mount: 0,
-            node: top,
-        },
-    ) {
+    let top = Place {
+        mount: 0,
+        node: k.table.image.mount_root(0),
+    };
+    if p == top {
         return Outcome::Go(p);
     }
-    climb(image, c, k.resolve, p)
+    climb(k.table, k.request.resolve, p)
 }
 
 // "..", with Escape at the handle's place.
-pub fn go_up(image: &[u8], c: Counts, k: Request, p: Place) -> Outcome
-    requires { Walking image.now c k × (p.mount < (tree_of image.now).mounts) × (is_directory (tree_of image.now) p.node ≡ true) }
-    ensures { result ≡ move_outcome (restrictions_for k) (go_up (request_for image.now k) p) }
+pub fn go_up(k: Scope<'_>, p: Place) -> Outcome
+    requires { (p.mount < (tree k.table.image).mounts) × (is_directory (tree k.table.image) p.node ≡ true) }
+    ensures { result ≡ move_outcome (limits k.entry) (go_up (asked k.entry) p) }
 {
-    let handle = k.handle;
-    if !same_place(p, handle) {
-        return up_from(image, c, k, p);
+    if p == k.request.handle {
+        if k.request.mark {
+            return Outcome::Stop(Errno::Enoent);
+        }
+        if has(BENEATH, k.request.resolve) {
+            return Outcome::Stop(Errno::Exdev);
+        }
     }
-    if k.mark {
-        return Outcome::Stop(Errno::Enoent);
-    }
-    if has(BENEATH, k.resolve) {
-        return Outcome::Stop(Errno::Exdev);
-    }
-    up_from(image, c, k, p)
+    up_from(k, p)
 }

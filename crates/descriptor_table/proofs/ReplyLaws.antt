@@ -1,9 +1,10 @@
 -- What each function's tests and calls show of the definitions: a directory in any bytes, and what a reply and the numbers after it come to.
 -- Assumes nothing.
+use Rattle.std.specs.Prelude.{None, Some}
 use Prim.Native.Nat.{ℕ, ◌+◌, ◌-◌, ◌*◌, ◌^◌, ◌≤◌, ◌<◌}
 use mathlib.Core.Bool.{Bool, true, false, not, false≢true}
 use mathlib.Core.List.{List}
-use mathlib.Core.Path.{◌≡◌, refl, sym, ap, ◌∙◌, subst}
+use mathlib.Core.Path.{◌≡◌, refl, sym, ap, ◌∙◌}
 use native.Mathlib.Omega.{arith}
 use borrow.Author.Tests.{lt-ltb, le-ltb, not-true, not-false}
 use lib.Dec.{eqb}
@@ -15,21 +16,21 @@ use Rattle.model.specs.Tree.{tree_of, sizes_of, nodes_part, is_directory}
 use Rattle.model.specs.Handles.{place_of}
 use Rattle.model.specs.Descriptors.{Slot, closed, holding, duplicate, close, set_mark, handle_at, slot_at, lowest_free, denying, answering, serve}
 use Rattle.model.specs.declared.Answer.{Answer}
-use Rattle.model.specs.declared.Answer.TheVariants.{Found, Refused as Answer-refused}
+use Rattle.model.specs.declared.Answer.TheVariants.{Found}
 use Rattle.model.specs.declared.Descriptor.{Descriptor}
 use Rattle.model.specs.declared.Errno.{Errno}
 use Rattle.model.specs.declared.Errno.TheVariants.{Ebadf, Emfile, Enotty}
 use Rattle.model.specs.declared.Handle.{Handle}
+use Rattle.model.specs.declared.Place.{Place}
 use Rattle.model.specs.declared.Reached.{Reached}
 use Rattle.model.specs.declared.Refusal.{Refusal}
 use Rattle.model.specs.declared.Reply.{Reply}
 use Rattle.model.specs.declared.Reply.TheVariants.{Opened, Duplicated, Done, Refused}
 use Rattle.laws.proofs.DescriptorLaws.{holding-not, open-below}
 use Rattle.laws.proofs.PartLaws.{part-column}
-use Rattle.parts.specs.Searches.{found_or}
-use Rattle.slots.specs.Slots.{handle_by, slot_by, slots_by, Fits}
-use Rattle.descriptor_table.specs.Replies.{Serves, FoundFits}
-use Rattle.slots.proofs.SlotLaws.{slot-closed, slot_held, slots_set, free-found, free-none}
+use Rattle.slots.specs.Slots.{handle_by, slot_by, slots_by}
+use Rattle.descriptor_table.specs.Replies.{Serves}
+use Rattle.slots.proofs.SlotLaws.{slot-closed, slot_held, slots_set, free-below}
 
 -- a directory of an image of any bytes, by the header's count and the record's kind
 module _ (s : List ℕ) (n : ℕ) {k : ℕ} (nodes : (k ≡ field 2 s 4) × (k < 2 ^ 16)) where
@@ -46,10 +47,6 @@ module _ (s : List ℕ) (n : ℕ) {k : ℕ} (nodes : (k ≡ field 2 s 4) × (k <
       let kind = part-column 2 s 20 (12 * field 2 s 4) (12 * n) (20 + 12 * n) (omega (arith, nodes.0)) refl in
       (rw (lt-ltb n (field 2 s 4) (omega (arith, nodes.0))) (ap (λ (y : ℕ). eqb y 1) (read.0 ∙ kind)), λ e. omega (arith, nodes.1))
 
--- a place that was found fits into a slot's number
-pub fits_told : {a : Answer} {r : Reached} → a ≡ Found r → FoundFits a → Fits r.place
-fits_told {a} {r} told fits = subst FoundFits told fits
-
 -- a refusal of the table's own, and one slot stored
 module _ {before : List ℕ} where
   pub denied : {e : Errno} {r : Reply} → r ≡ Refused (refusal e not_walked) → Serves (denying (slots_by before) e) before before r
@@ -65,26 +62,19 @@ module _ {before : List ℕ} where
   }
 
 opened-not : (o : Descriptor) (e : Refusal) → Opened o ≡ Refused e → ⊥
-opened-not o e same = let z : ◌≡◌ {A = ℕ} 0 1 = cc in omega arith
+opened-not o e same = cc
 
 duplicated-not : (d : ℕ) (e : Refusal) → Duplicated d ≡ Refused e → ⊥
-duplicated-not d e same = let z : ◌≡◌ {A = ℕ} 0 1 = cc in omega arith
+duplicated-not d e same = cc
 
 done-not : (e : Refusal) → Done ≡ Refused e → ⊥
-done-not e same = let z : ◌≡◌ {A = ℕ} 0 1 = cc in omega arith
+done-not e same = cc
 
 -- what the resolver answered, in the lowest free number
-module _ (before : List ℕ) (marked : Bool) {a : Answer} where
-  pub answer-refused : {q : Refusal} {r : Reply} → a ≡ Answer-refused q → r ≡ Refused q → Serves (answering (slots_by before) marked a) before before r
-  answer-refused told is = rw told (record { reply_is = is; slots_are = refl; refusal_keeps = λ _ _. refl; rest_stays = refl })
-
-  module _ {reached : Reached} (told : a ≡ Found reached) {n : ℕ} (free : n ≡ found_or 64 (lowest_free (slots_by before))) where
-    pub answer-full : {r : Reply} → 64 ≤ n → r ≡ Refused (refusal Emfile not_walked) → Serves (answering (slots_by before) marked a) before before r
-    answer-full none_free is = rw (told, free-none before free none_free) (denied is)
-
-    pub answer-opened : (x : ℕ) {r : Reply} → n < 64 → slot_by x ≡ holding (handle_at reached.place marked)
-        → r ≡ Opened (record { number = n; reached = reached }) → Serves (answering (slots_by before) marked a) before (set before n x) r
-    answer-opened x below slot is = rw (told, free-found before free below) (stored n x below slot is (opened-not _))
+module _ (before : List ℕ) (marked : Bool) {a : Answer} {reached : Reached} (told : a ≡ Found reached) where
+  pub answer-opened : (n x : ℕ) {r : Reply} → Some n ≡ lowest_free (slots_by before) → slot_by x ≡ holding (handle_at reached.place marked)
+      → r ≡ Opened (record { number = n; reached = reached }) → Serves (answering (slots_by before) marked a) before (set before n x) r
+  answer-opened n x free slot is = rw (told, sym free) (stored n x (free-below before n (sym free)) slot is (opened-not _))
 
 -- the slot that a call goes through, by the number that was read there
 module _ (before : List ℕ) (d x : ℕ) (read : slot_by x ≡ slot_at (slots_by before) d) where
@@ -113,14 +103,15 @@ module _ (before : List ℕ) (d x : ℕ) (read : slot_by x ≡ slot_at (slots_by
       mark-shut = rw (shut x-is) (denied is)
 
     module _ (ne : x ≡ 0 → ⊥) where
-      module _ {n : ℕ} (free : n ≡ found_or 64 (lowest_free (slots_by before))) where
-        pub duplicate-full : {r : Reply} → 64 ≤ n → r ≡ Refused (refusal Emfile not_walked) → Serves (serve image (slots_by before) (duplicate d)) before before r
-        unfolding serve
-        duplicate-full none_free is = rw (here ne) (rw (free-none before free none_free) (denied is))
+      pub duplicate-full : {r : Reply} → None ≡ lowest_free (slots_by before) → r ≡ Refused (refusal Emfile not_walked)
+          → Serves (serve image (slots_by before) (duplicate d)) before before r
+      unfolding serve
+      duplicate-full full is = rw (here ne) (rw (sym full) (denied is))
 
-        pub duplicate-given : {r : Reply} → n < 64 → r ≡ Duplicated n → Serves (serve image (slots_by before) (duplicate d)) before (set before n x) r
-        unfolding serve
-        duplicate-given below is = rw (here ne) (rw (free-found before free below) (stored n x below (read ∙ here ne) is (duplicated-not n)))
+      pub duplicate-given : (n : ℕ) {r : Reply} → Some n ≡ lowest_free (slots_by before) → r ≡ Duplicated n
+          → Serves (serve image (slots_by before) (duplicate d)) before (set before n x) r
+      unfolding serve
+      duplicate-given n free is = rw (here ne) (rw (sym free) (stored n x (free-below before n (sym free)) (read ∙ here ne) is (duplicated-not n)))
 
       pub close-done : {r : Reply} → r ≡ Done → Serves (serve image (slots_by before) (close d)) before (set before d 0) r
       unfolding serve
@@ -133,11 +124,9 @@ module _ (before : List ℕ) (d x : ℕ) (read : slot_by x ≡ slot_at (slots_by
         unfolding serve
         mark-refused e is = rw (sym read ∙ held.0) (rw (sym directory-is.0 ∙ not-true directory e) (denied is))
 
-        pub mark-fits : not directory ≡ false → Fits (place_of h)
-        mark-fits e = (held.1, omega (arith, directory-is.1 (not-false directory e)))
-
-        pub mark-done : (y : ℕ) {r : Reply} → not directory ≡ false → slot_by y ≡ holding (handle_at (place_of h) true) → r ≡ Done
+        pub mark-done : {p : Place} → p ≡ place_of h → (y : ℕ) {r : Reply} → not directory ≡ false → slot_by y ≡ holding (handle_at p true) → r ≡ Done
             → Serves (serve image (slots_by before) (set_mark d)) before (set before d y) r
         unfolding serve
-        mark-done y e slot is =
-            rw (sym read ∙ held.0) (rw (sym directory-is.0 ∙ not-false directory e) (stored d y (read_below ne) slot is done-not))
+        mark-done p-is y e slot is =
+            rw (sym read ∙ held.0) (rw (sym directory-is.0 ∙ not-false directory e)
+            (stored d y (read_below ne) (slot ∙ ap (λ (p : Place). holding (handle_at p true)) p-is) is done-not))

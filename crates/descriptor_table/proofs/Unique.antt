@@ -44,8 +44,8 @@ head-one e = (cc, cc)
 
 map-one : (l l' : List ℕ) → map slot_by l ≡ map slot_by l' → l ≡ l'
 map-one [] [] e = refl
-map-one [] (y ∷ l') e = let z : ◌≡◌ {A = ℕ} 0 1 = cc in absurd (omega arith)
-map-one (x ∷ l) [] e = let z : ◌≡◌ {A = ℕ} 0 1 = cc in absurd (omega arith)
+map-one [] (y ∷ l') e = cc
+map-one (x ∷ l) [] e = cc
 map-one (x ∷ l) (y ∷ l') e = let h = head-one e in ap₂ (λ (a : ℕ) (m : List ℕ). a ∷ m) (slot-one x y h.0) (map-one l l' h.1)
 
 -- one reply, and one list of numbers

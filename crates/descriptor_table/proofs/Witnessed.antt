@@ -2,7 +2,6 @@
 use Prim.Native.Nat.{ℕ}
 use mathlib.Core.List.{List, [], ◌∷◌}
 use mathlib.Core.Path.{◌≡◌, refl}
-use native.Mathlib.Omega.{arith}
 use lib.ListN.{replicate}
 use Rattle.model.specs.Bytes.{find}
 use Rattle.model.specs.Descriptors.{duplicate, close, slot_at, lowest_free, serve}
@@ -25,10 +24,10 @@ made =
     ∷ []
 
 given : {A : Type 0} (d : ℕ) (e : Refusal) → Duplicated d ≡ Refused e → A
-given d e same = let z : ◌≡◌ {A = ℕ} 0 1 = cc in absurd (omega arith)
+given d e same = cc
 
 done : {A : Type 0} (e : Refusal) → Done ≡ Refused e → A
-done e same = let z : ◌≡◌ {A = ℕ} 0 1 = cc in absurd (omega arith)
+done e same = cc
 
 pub sequence-witnessed : (image : List ℕ) → InOrder image started made
 unfolding serve slot_at lowest_free find slot_by slots_by

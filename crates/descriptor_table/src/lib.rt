@@ -1,5 +1,6 @@
 // The descriptor table: 64 lent numbers, each a slot that is closed or holds a handle. Whatever numbers they are, they stand for some 64
-// slots. A refusal leaves them as they were. Nothing here checks a table or walks.
+// slots. A refusal leaves them as they were. Nothing here checks a table or walks. The lent slice may hold more than 64: an array would ask more of
+// callers.
 #![tactic(auto)]
 
 ghost use Rattle.std.specs.Prelude.{true, List, ◌≡◌, ℕ, ◌≤◌, ◌<◌, length};
@@ -10,8 +11,8 @@ ghost use Rattle.slots.specs.Slots.{slots_by};
 ghost use Rattle.descriptor_table.specs.Replies.{Serves, FoundFits};
 
 use fields::u16_within;
-use model::{Answer, Descriptor, Errno, NO_DETAIL, Place, Progress, Refusal, Reply};
-use slots::{CLOSED, DESCRIPTORS, held, lowest_free, number_of, slot_at};
+use model::{Answer, Descriptor, Errno, NO_DETAIL, NOT_WALKED, Place, Refusal, Reply};
+use slots::{CLOSED, held, lowest_free, number_of, slot_at};
 
 // A refusal of the descriptor table's own: both counts 0, no detail (RULES 17.8).
 pub fn deny(errno: Errno) -> Reply
@@ -20,10 +21,7 @@ pub fn deny(errno: Errno) -> Reply
     Reply::Refused(Refusal {
         errno,
         detail: NO_DETAIL,
-        progress: Progress {
-            components: 0,
-            links: 0,
-        },
+        progress: NOT_WALKED,
     })
 }
 
@@ -31,10 +29,7 @@ pub fn deny(errno: Errno) -> Reply
 fn is_directory(image: &[u8], n: usize) -> bool
     ensures { (result ≡ is_directory (tree_of image.now) n) × (result ≡ true → n < 65536) }
 {
-    if u16_within(image, 4) <= n {
-        return false;
-    }
-    u16_within(image, 20 + 12 * n) == 1
+    n < u16_within(image, 4) && u16_within(image, 20 + 12 * n) == 1
 }
 
 // What the resolver answered: a place found stands in the lowest free number, marked only if that was asked.
@@ -44,10 +39,9 @@ pub fn give(slots: &mut [u64], marked: bool, answer: Answer) -> Reply
 {
     match answer {
         Answer::Found(reached) => {
-            let number = lowest_free(slots);
-            if DESCRIPTORS <= number {
+            let Some(number) = lowest_free(slots) else {
                 return deny(Errno::Emfile);
-            }
+            };
             slots[number] = number_of(reached.place, marked);
             Reply::Opened(Descriptor { number, reached })
         }
@@ -64,10 +58,9 @@ pub fn duplicate(slots: &mut [u64], d: usize) -> Reply
     if x == CLOSED {
         return deny(Errno::Ebadf);
     }
-    let number = lowest_free(slots);
-    if DESCRIPTORS <= number {
+    let Some(number) = lowest_free(slots) else {
         return deny(Errno::Emfile);
-    }
+    };
     slots[number] = x;
     Reply::Duplicated(number)
 }
@@ -98,10 +91,6 @@ pub fn set_mark(image: &[u8], slots: &mut [u64], d: usize) -> Reply
     if !is_directory(image, h.node) {
         return deny(Errno::Enotty);
     }
-    let p = Place {
-        mount: h.mount,
-        node: h.node,
-    };
-    slots[d] = number_of(p, true);
+    slots[d] = number_of(Place::from(h), true);
     Reply::Done
 }

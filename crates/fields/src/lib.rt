@@ -1,20 +1,16 @@
-// Little-endian fields. A wider one is made of two halves, so that one law over the width serves them all.
+// Little-endian fields. A wider one is made of two halves, so that one law over the width serves them all. Their results have other types, and
+// one function over the width would need a loop over the bytes: no plainer, and maybe more than a single load.
 #![tactic(auto)]
 
 ghost use Rattle.std.specs.Prelude.{◌≡◌, ℕ, ◌+◌, ◌^◌, ◌≤◌, ◌<◌, length};
 ghost use Rattle.model.specs.Bytes.{field};
 
-fn wide(b: u8) -> usize
-    ensures { (result ≡ b) × (result < 256) }
-{
-    b as usize
-}
-
+#[tactic(auto, unfolding(model::specs::Bytes::field))]
 pub fn u16_at(s: &[u8], at: usize) -> usize
     requires { at + 2 ≤ length s.now }
     ensures { (result ≡ field 2 s.now at) × (result < 2 ^ 16) }
 {
-    wide(s[at]) + 256 * wide(s[at + 1])
+    usize::from(s[at]) + 256 * usize::from(s[at + 1])
 }
 
 pub fn u32_at(s: &[u8], at: usize) -> usize
@@ -39,7 +35,7 @@ pub fn u16_within(s: &[u8], at: usize) -> usize
         return 0;
     }
     if s.len() <= at + 1 {
-        return wide(s[at]);
+        return usize::from(s[at]);
     }
     u16_at(s, at)
 }

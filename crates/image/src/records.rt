@@ -1,10 +1,10 @@
-// The fields of nodes, mounts and entries, by the record's number. They ask that the sizes fit (rules 1 and 3), which the table
-// check has seen before it reads a record.
+// The header's counts, and the fields of nodes, mounts and entries, by the record's number.
 ghost use Rattle.std.specs.Prelude.{◌≡◌, ℕ, ◌+◌, ◌*◌, ◌^◌, ◌≤◌, ◌<◌, length};
-ghost use Rattle.model.specs.Tree.{sizes_of, mounts_at, entries_at, text_at, tree_of};
+ghost use Rattle.model.specs.Tree.{tree_of};
 ghost use Rattle.laws.specs.Acceptance.{Sized};
-ghost use Rattle.image.specs.Counts.{counts_of, Counted};
+ghost use Rattle.image.specs.Counts.{counts_of};
 
+use crate::Image;
 use fields::{u16_at, u32_at};
 use parts::records::Counts;
 
@@ -27,112 +27,128 @@ pub fn text_length(image: &[u8]) -> usize
     u32_at(image, 12)
 }
 
-// Where a node's record begins.
-fn node_at(image: &[u8], n: usize) -> usize
-    requires { Sized image.now × (n < (tree_of image.now).nodes) }
-    ensures { (result ≡ 20 + 12 * n) × (result + 12 ≤ length image.now) }
-{
-    20 + 12 * n
-}
+impl<'a> Image<'a> {
+    ghost use Rattle.model.specs.Tree.{sizes_of, mounts_at, entries_at, text_at};
+    ghost use Rattle.image.specs.Images.{tree};
 
-// Where a mount's record begins.
-fn mount_at(image: &[u8], c: Counts, m: usize) -> usize
-    requires { Counted image.now c × (m < (tree_of image.now).mounts) }
-    ensures { (result ≡ mounts_at (sizes_of image.now) + 8 * m) × (result + 8 ≤ length image.now) }
-{
-    20 + 12 * c.nodes + 8 * m
-}
+    // Of bytes whose sizes fit, with the counts that their header tells.
+    pub fn of(bytes: &'a [u8]) -> Image<'a>
+        requires { Sized bytes.now }
+        ensures { (result.bytes ≡ bytes.entry) × (result.counts ≡ counts_of bytes.now) }
+    {
+        Image {
+            bytes,
+            counts: read_counts(bytes),
+        }
+    }
 
-// Where an entry's record begins.
-fn entry_at(image: &[u8], c: Counts, e: usize) -> usize
-    requires { Counted image.now c × (e < (tree_of image.now).entries) }
-    ensures { (result ≡ entries_at (sizes_of image.now) + 8 * e) × (result + 8 ≤ length image.now) }
-{
-    20 + 12 * c.nodes + 8 * c.mounts + 8 * e
-}
+    // Where a node's record begins.
+    fn node_at(self, n: usize) -> usize
+        requires { n < (tree self).nodes }
+        ensures { (result ≡ 20 + 12 * n) × (result + 12 ≤ length self.entry.bytes.now) }
+    {
+        20 + 12 * n
+    }
 
-// Where the text begins.
-pub fn text_at(image: &[u8], c: Counts) -> usize
-    requires { Counted image.now c }
-    ensures { (result ≡ text_at (sizes_of image.now)) × (result + (tree_of image.now).text_length ≡ length image.now) }
-{
-    20 + 12 * c.nodes + 8 * c.mounts + 8 * c.entries
-}
+    // Where a mount's record begins.
+    fn mount_at(self, m: usize) -> usize
+        requires { m < (tree self).mounts }
+        ensures { (result ≡ mounts_at (sizes_of self.entry.bytes.now) + 8 * m) × (result + 8 ≤ length self.entry.bytes.now) }
+    {
+        20 + 12 * self.counts.nodes + 8 * m
+    }
 
-pub fn node_kind(image: &[u8], n: usize) -> usize
-    requires { Sized image.now × (n < (tree_of image.now).nodes) }
-    ensures { (result ≡ (tree_of image.now).kind n) × (result < 2 ^ 16) }
-{
-    u16_at(image, node_at(image, n))
-}
+    // Where an entry's record begins.
+    fn entry_at(self, e: usize) -> usize
+        requires { e < (tree self).entries }
+        ensures { (result ≡ entries_at (sizes_of self.entry.bytes.now) + 8 * e) × (result + 8 ≤ length self.entry.bytes.now) }
+    {
+        20 + 12 * self.counts.nodes + 8 * self.counts.mounts + 8 * e
+    }
 
-pub fn node_parent(image: &[u8], n: usize) -> usize
-    requires { Sized image.now × (n < (tree_of image.now).nodes) }
-    ensures { (result ≡ (tree_of image.now).parent n) × (result < 2 ^ 16) }
-{
-    u16_at(image, node_at(image, n) + 2)
-}
+    // Where the text begins.
+    pub fn text_at(self) -> usize
+        ensures { (result ≡ text_at (sizes_of self.entry.bytes.now)) × (result + (tree self.entry).text_length ≡ length self.entry.bytes.now) }
+    {
+        20 + 12 * self.counts.nodes + 8 * self.counts.mounts + 8 * self.counts.entries
+    }
 
-pub fn node_first(image: &[u8], n: usize) -> usize
-    requires { Sized image.now × (n < (tree_of image.now).nodes) }
-    ensures { (result ≡ (tree_of image.now).first n) × (result < 2 ^ 32) }
-{
-    u32_at(image, node_at(image, n) + 4)
-}
+    // A number, and no enum: a `match` on it tells the invalid range apart (DECISIONS, Forms).
+    pub fn node_kind(self, n: usize) -> usize
+        requires { n < (tree self).nodes }
+        ensures { (result ≡ (tree self.entry).kind n) × (result < 2 ^ 16) }
+    {
+        u16_at(self.bytes, self.node_at(n))
+    }
 
-pub fn node_count(image: &[u8], n: usize) -> usize
-    requires { Sized image.now × (n < (tree_of image.now).nodes) }
-    ensures { (result ≡ (tree_of image.now).count n) × (result < 2 ^ 32) }
-{
-    u32_at(image, node_at(image, n) + 8)
-}
+    pub fn node_parent(self, n: usize) -> usize
+        requires { n < (tree self).nodes }
+        ensures { (result ≡ (tree self.entry).parent n) × (result < 2 ^ 16) }
+    {
+        u16_at(self.bytes, self.node_at(n) + 2)
+    }
 
-pub fn mount_root(image: &[u8], c: Counts, m: usize) -> usize
-    requires { Counted image.now c × (m < (tree_of image.now).mounts) }
-    ensures { (result ≡ (tree_of image.now).mount_root m) × (result < 2 ^ 16) }
-{
-    u16_at(image, mount_at(image, c, m))
-}
+    pub fn node_first(self, n: usize) -> usize
+        requires { n < (tree self).nodes }
+        ensures { (result ≡ (tree self.entry).first n) × (result < 2 ^ 32) }
+    {
+        u32_at(self.bytes, self.node_at(n) + 4)
+    }
 
-pub fn mount_parent(image: &[u8], c: Counts, m: usize) -> usize
-    requires { Counted image.now c × (m < (tree_of image.now).mounts) }
-    ensures { (result ≡ (tree_of image.now).mount_parent m) × (result < 2 ^ 16) }
-{
-    u16_at(image, mount_at(image, c, m) + 2)
-}
+    pub fn node_count(self, n: usize) -> usize
+        requires { n < (tree self).nodes }
+        ensures { (result ≡ (tree self.entry).count n) × (result < 2 ^ 32) }
+    {
+        u32_at(self.bytes, self.node_at(n) + 8)
+    }
 
-pub fn mount_point(image: &[u8], c: Counts, m: usize) -> usize
-    requires { Counted image.now c × (m < (tree_of image.now).mounts) }
-    ensures { (result ≡ (tree_of image.now).mount_point m) × (result < 2 ^ 16) }
-{
-    u16_at(image, mount_at(image, c, m) + 4)
-}
+    pub fn mount_root(self, m: usize) -> usize
+        requires { m < (tree self).mounts }
+        ensures { (result ≡ (tree self.entry).mount_root m) × (result < 2 ^ 16) }
+    {
+        u16_at(self.bytes, self.mount_at(m))
+    }
 
-// A mount's point in its parent mount, both in one number, so that a search compares them at once.
-pub fn packed_point(image: &[u8], c: Counts, m: usize) -> usize
-    requires { Counted image.now c × (m < (tree_of image.now).mounts) }
-    ensures { (result ≡ (tree_of image.now).mount_parent m + 65536 * (tree_of image.now).mount_point m) × ((tree_of image.now).mount_parent m < 2 ^ 16) }
-{
-    u32_at(image, mount_at(image, c, m) + 2)
-}
+    pub fn mount_parent(self, m: usize) -> usize
+        requires { m < (tree self).mounts }
+        ensures { (result ≡ (tree self.entry).mount_parent m) × (result < 2 ^ 16) }
+    {
+        u16_at(self.bytes, self.mount_at(m) + 2)
+    }
 
-pub fn name_offset(image: &[u8], c: Counts, e: usize) -> usize
-    requires { Counted image.now c × (e < (tree_of image.now).entries) }
-    ensures { (result ≡ (tree_of image.now).name_offset e) × (result < 2 ^ 32) }
-{
-    u32_at(image, entry_at(image, c, e))
-}
+    pub fn mount_point(self, m: usize) -> usize
+        requires { m < (tree self).mounts }
+        ensures { (result ≡ (tree self.entry).mount_point m) × (result < 2 ^ 16) }
+    {
+        u16_at(self.bytes, self.mount_at(m) + 4)
+    }
 
-pub fn name_length(image: &[u8], c: Counts, e: usize) -> usize
-    requires { Counted image.now c × (e < (tree_of image.now).entries) }
-    ensures { (result ≡ (tree_of image.now).name_length e) × (result < 2 ^ 16) }
-{
-    u16_at(image, entry_at(image, c, e) + 4)
-}
+    // A mount's point in its parent mount, both in one number, so that a search compares them at once.
+    pub fn packed_point(self, m: usize) -> usize
+        requires { m < (tree self).mounts }
+        ensures { (result ≡ (tree self.entry).mount_parent m + 65536 * (tree self.entry).mount_point m) × ((tree self.entry).mount_parent m < 2 ^ 16) }
+    {
+        u32_at(self.bytes, self.mount_at(m) + 2)
+    }
 
-pub fn entry_node(image: &[u8], c: Counts, e: usize) -> usize
-    requires { Counted image.now c × (e < (tree_of image.now).entries) }
-    ensures { (result ≡ (tree_of image.now).entry_node e) × (result < 2 ^ 16) }
-{
-    u16_at(image, entry_at(image, c, e) + 6)
+    pub fn name_offset(self, e: usize) -> usize
+        requires { e < (tree self).entries }
+        ensures { (result ≡ (tree self.entry).name_offset e) × (result < 2 ^ 32) }
+    {
+        u32_at(self.bytes, self.entry_at(e))
+    }
+
+    pub fn name_length(self, e: usize) -> usize
+        requires { e < (tree self).entries }
+        ensures { (result ≡ (tree self.entry).name_length e) × (result < 2 ^ 16) }
+    {
+        u16_at(self.bytes, self.entry_at(e) + 4)
+    }
+
+    pub fn entry_node(self, e: usize) -> usize
+        requires { e < (tree self).entries }
+        ensures { (result ≡ (tree self.entry).entry_node e) × (result < 2 ^ 16) }
+    {
+        u16_at(self.bytes, self.entry_at(e) + 6)
+    }
 }

@@ -1,27 +1,28 @@
 // Names and link bodies, as parts of the lent image.
 ghost use Rattle.std.specs.Prelude.{◌≡◌, ◌+◌, ◌≤◌, ◌<◌};
-ghost use Rattle.model.specs.Tree.{tree_of};
-ghost use Rattle.image.specs.Counts.{Counted};
 
-use crate::records::{name_length, name_offset, node_count, node_first, text_at};
-use parts::records::Counts;
+use crate::Image;
 
-// An entry's name.
-pub fn name<'a>(image: &'a [u8], c: Counts, e: usize) -> &'a [u8]
-    requires { Counted image.now c × (e < (tree_of image.now).entries) × ((tree_of image.now).name_offset e + (tree_of image.now).name_length e ≤ (tree_of image.now).text_length) }
-    ensures { result.now ≡ (tree_of image.now).name e }
-{
-    let start = text_at(image, c) + name_offset(image, c, e);
-    let end = start + name_length(image, c, e);
-    &image[start..end]
-}
+impl<'a> Image<'a> {
+    ghost use Rattle.image.specs.Images.{tree};
 
-// A symbolic link's body.
-pub fn body<'a>(image: &'a [u8], c: Counts, n: usize) -> &'a [u8]
-    requires { Counted image.now c × (n < (tree_of image.now).nodes) × ((tree_of image.now).first n + (tree_of image.now).count n ≤ (tree_of image.now).text_length) }
-    ensures { result.now ≡ (tree_of image.now).body n }
-{
-    let start = text_at(image, c) + node_first(image, n);
-    let end = start + node_count(image, n);
-    &image[start..end]
+    // An entry's name.
+    pub fn name(self, e: usize) -> &'a [u8]
+        requires { (e < (tree self).entries) × ((tree self).name_offset e + (tree self).name_length e ≤ (tree self).text_length) }
+        ensures { result.now ≡ (tree self.entry).name e }
+    {
+        let start = self.text_at() + self.name_offset(e);
+        let end = start + self.name_length(e);
+        &self.bytes[start..end]
+    }
+
+    // A symbolic link's body.
+    pub fn body(self, n: usize) -> &'a [u8]
+        requires { (n < (tree self).nodes) × ((tree self).first n + (tree self).count n ≤ (tree self).text_length) }
+        ensures { result.now ≡ (tree self.entry).body n }
+    {
+        let start = self.text_at() + self.node_first(n);
+        let end = start + self.node_count(n);
+        &self.bytes[start..end]
+    }
 }

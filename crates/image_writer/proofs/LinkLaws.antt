@@ -1,13 +1,13 @@
 -- What symbolic links have and other nodes have not, by the kind that was read. Assumes nothing.
-use Prim.Native.Nat.{ℕ, ◌+◌, ◌^◌, ◌≤◌, ◌<◌}
+use Prim.Native.Nat.{ℕ, ◌^◌, ◌<◌}
 use mathlib.Core.Bool.{cond}
 use mathlib.Core.List.{List, []}
 use mathlib.Core.Path.{◌≡◌, sym, ◌∙◌}
 use native.Mathlib.Omega.{arith}
 use borrow.Author.Tests.{eq-eqb, ne_eqb}
 use lib.Dec.{eqb}
-use lib.ListN.{length, take}
-use Rattle.model.specs.Tree.{kind_in, first_in, count_in, body_in}
+use lib.ListN.{take}
+use Rattle.model.specs.Tree.{kind_in, count_in, body_in}
 use Rattle.model.specs.Build.{body_length, body_bytes}
 use Rattle.parts.specs.Parts.{nodes_tree}
 use Rattle.parts.specs.declared.records.Counts.{Counts}
@@ -20,12 +20,6 @@ module _ {A : Type 0} (x y : A) {kind k : ℕ} (is : k ≡ kind) where
   of_other h = rw (ne_eqb kind 3 (λ e. h (is ∙ e)))
 
 module _ (nodes : List ℕ) (n : ℕ) {k : ℕ} (is : k ≡ kind_in nodes n) where
-  pub link-first : (body first : ℕ) → k ≡ 3 → body ≡ cond (eqb (kind_in nodes n) 3) body first
-  link-first body first h = of-link body first is h
-
-  pub other-first : (body first : ℕ) {f : ℕ} → f ≡ first → (k ≡ 3 → ⊥) → f ≡ cond (eqb (kind_in nodes n) 3) body first
-  other-first body first e h = e ∙ of_other body first is h
-
   pub link-length : {r : ℕ} → (r ≡ count_in nodes n) × (r < 2 ^ 32) → k ≡ 3 → ((c : Counts) → r ≡ body_length (nodes_tree c nodes []) n) × (r < 2 ^ 32)
   unfolding body_length
   link-length e h = ((λ c. e.0 ∙ of-link (count_in nodes n) 0 is h), e.1)
@@ -41,7 +35,3 @@ module _ (nodes : List ℕ) (n : ℕ) {k : ℕ} (is : k ≡ kind_in nodes n) whe
   pub other-body : (text : List ℕ) → (k ≡ 3 → ⊥) → (c : Counts) → take 0 text ≡ body_bytes (nodes_tree c nodes text) n
   unfolding body_bytes
   other-body text h c = of_other (body_in nodes text n) [] is h
-
-  -- a link's body lies inside the text, if its links' do
-  pub link-inside : (text : List ℕ) → (kind_in nodes n ≡ 3 → first_in nodes n + count_in nodes n ≤ length text) → k ≡ 3 → first_in nodes n + count_in nodes n ≤ length text
-  link-inside text inside h = inside (sym is ∙ h)

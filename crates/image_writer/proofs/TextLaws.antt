@@ -1,5 +1,5 @@
 -- Names and bodies that lie inside the text are as long as their records say. Assumes nothing.
-use Prim.Native.Nat.{ℕ, ◌+◌, ◌^◌, ◌≤◌, ◌<◌}
+use Prim.Native.Nat.{ℕ, ◌+◌, ◌≤◌, ◌<◌}
 use mathlib.Core.Bool.{Bool, true, false, cond}
 use mathlib.Core.List.{List, []}
 use mathlib.Core.Path.{◌≡◌, refl}
@@ -25,8 +25,3 @@ module _ (c : Counts) (nodes text : List ℕ) where
   pub body-long : BodiesInside c nodes text → (n : ℕ) → n < c.nodes → length (body_bytes (nodes_tree c nodes text) n) ≡ body_length (nodes_tree c nodes text) n
   unfolding body_bytes body_length
   body-long inside n h = by_kind n (eqb (kind_in nodes n) 3) refl (inside.body_inside n h)
-
-  -- a body's length does not depend on the text
-  pub body-length-is : (n : ℕ) {r : ℕ} → ((c : Counts) → r ≡ body_length (nodes_tree c nodes []) n) × (r < 2 ^ 32) → r ≡ body_length (nodes_tree c nodes text) n
-  unfolding body_length
-  body-length-is n is = is.0 c

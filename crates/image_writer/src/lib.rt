@@ -1,7 +1,7 @@
 // Writes the image of the tree that four parts stand for over the front of a lent buffer, part by part. Its callers have judged the parts.
 #![tactic(auto)]
 
-ghost use Rattle.std.specs.Prelude.{cond, [], ◌∷◌, ◌≡◌, ℕ, ◌+◌, ◌*◌, ◌^◌, ◌≤◌, ◌<◌, eqb, length};
+ghost use Rattle.std.specs.Prelude.{cond, List, [], ◌∷◌, ◌≡◌, ℕ, ◌+◌, ◌*◌, ◌^◌, ◌≤◌, ◌<◌, eqb, length};
 ghost use Rattle.model.specs.Bytes.{fields_bytes, join_below, over};
 ghost use Rattle.model.specs.Tree.{kind_in, parent_in, first_in, count_in, name_length_in, entry_node_in};
 ghost use Rattle.model.specs.TableCheck.{sum_below, whole_length};
@@ -14,7 +14,7 @@ use parts::records::{
     Counts, entry_node, name_length, node_count, node_first, node_kind, node_parent,
 };
 use parts::texts::{body, name};
-use writer::{lay, put_u16s, put_u32, put_u32s};
+use writer::{lay, put, put_two};
 
 // How many bytes the names take, the whole text, and the image.
 #[derive(Clone, Copy)]
@@ -43,9 +43,9 @@ fn put_header(out: &mut [u8], c: Counts, l: Lengths)
     ensures { out.new ≡ over out.old 0 (header_bytes (sizes_by c l.text)) }
 {
     lay(out, 0, b"TOC1");
-    put_u16s(out, 4, c.nodes, c.mounts);
-    put_u16s(out, 8, c.entries, 0);
-    put_u32s(out, 12, l.text, l.whole);
+    put_two::<2>(out, 4, c.nodes, c.mounts);
+    put_two::<2>(out, 8, c.entries, 0);
+    put_two::<4>(out, 12, l.text, l.whole);
 }
 
 // A node's first as it is written, a body beginning at a position of the text.
@@ -64,8 +64,8 @@ fn put_node(out: &mut [u8], at: usize, nodes: &[u8], n: usize, first: usize)
     ensures { out.new ≡ over out.old at
         (fields_bytes ((2, kind_in nodes.now n) ∷ (2, parent_in nodes.now n) ∷ (4, first) ∷ (4, count_in nodes.now n) ∷ [])) }
 {
-    put_u16s(out, at, node_kind(nodes, n), node_parent(nodes, n));
-    put_u32s(out, at + 4, first, node_count(nodes, n));
+    put_two::<2>(out, at, node_kind(nodes, n), node_parent(nodes, n));
+    put_two::<4>(out, at + 4, first, node_count(nodes, n));
 }
 
 fn put_nodes(out: &mut [u8], nodes: &[u8], c: Counts, names: usize)
@@ -73,11 +73,9 @@ fn put_nodes(out: &mut [u8], nodes: &[u8], c: Counts, names: usize)
     ensures { out.new ≡ over out.old 20 (join_below (node_bytes (nodes_tree c nodes.now []) names) c.nodes) }
 {
     let mut body = names;
-    let mut n = 0;
-    while n < c.nodes {
+    for n in 0..c.nodes {
         put_node(out, 20 + 12 * n, nodes, n, first_at(nodes, n, body));
         body += body_length(nodes, n);
-        n += 1;
     }
 }
 
@@ -94,8 +92,8 @@ fn put_entry(out: &mut [u8], at: usize, entries: &[u8], e: usize, name: usize)
     ensures { out.new ≡ over out.old at
         (fields_bytes ((4, name) ∷ (2, name_length_in entries.now e) ∷ (2, entry_node_in entries.now e) ∷ [])) }
 {
-    put_u32(out, at, name);
-    put_u16s(out, at + 4, name_length(entries, e), entry_node(entries, e));
+    put::<4>(out, at, name);
+    put_two::<2>(out, at + 4, name_length(entries, e), entry_node(entries, e));
 }
 
 fn put_entries(out: &mut [u8], from: usize, entries: &[u8], c: Counts)
@@ -103,11 +101,25 @@ fn put_entries(out: &mut [u8], from: usize, entries: &[u8], c: Counts)
     ensures { out.new ≡ over out.old from (join_below (entry_bytes (named_tree c entries.now [])) c.entries) }
 {
     let mut name = 0;
-    let mut e = 0;
-    while e < c.entries {
+    for e in 0..c.entries {
         put_entry(out, from + 8 * e, entries, e, name);
         name += name_length(entries, e);
-        e += 1;
+    }
+}
+
+// Parts of the text, each behind the one before it.
+fn put_parts<'a, F: Fn(usize) -> &'a [u8]>(out: &mut [u8], from: usize, count: usize, part: F)
+    requires called { (k : ℕ) → k < count → F.pre part k }
+    requires room { (f : ℕ → List ℕ) × ((k : ℕ) (r : _) → k < count → F.post part k r → r.now ≡ f k)
+        × (from + length (join_below f count) ≤ length out.old) }
+    ensures { (f : ℕ → List ℕ) → ((k : ℕ) (r : _) → k < count → F.post part k r → r.now ≡ f k)
+        → out.new ≡ over out.old from (join_below f count) }
+{
+    let mut at = from;
+    for k in 0..count {
+        let bytes = part(k);
+        lay(out, at, bytes);
+        at += bytes.len();
     }
 }
 
@@ -116,13 +128,7 @@ fn put_names(out: &mut [u8], from: usize, entries: &[u8], text: &[u8], c: Counts
         × (from + sum_below (name_length_in entries.now) c.entries ≤ length out.old) }
     ensures { out.new ≡ over out.old from (join_below (named_tree c entries.now text.now).name c.entries) }
 {
-    let mut at = from;
-    let mut e = 0;
-    while e < c.entries {
-        lay(out, at, name(entries, text, e));
-        at += name_length(entries, e);
-        e += 1;
-    }
+    put_parts(out, from, c.entries, |e| name(entries, text, e));
 }
 
 // The body of a symbolic link, and of any other node nothing.
@@ -141,13 +147,7 @@ fn put_bodies(out: &mut [u8], from: usize, nodes: &[u8], text: &[u8], c: Counts)
         × (from + sum_below (body_length (nodes_tree c nodes.now text.now)) c.nodes ≤ length out.old) }
     ensures { out.new ≡ over out.old from (join_below (body_bytes (nodes_tree c nodes.now text.now)) c.nodes) }
 {
-    let mut at = from;
-    let mut n = 0;
-    while n < c.nodes {
-        lay(out, at, body_of(nodes, text, n));
-        at += body_length(nodes, n);
-        n += 1;
-    }
+    put_parts(out, from, c.nodes, |n| body_of(nodes, text, n));
 }
 
 pub fn put_image(

@@ -1,13 +1,14 @@
 -- Two tables that have a handle's part in common: what is reachable in the first is reachable in the second, the same way, and read alike there.
 -- Assumes nothing.
+use Rattle.std.specs.Prelude.{Option, None, Some}
 use Prim.Native.Nat.{ℕ, zero, suc, ◌+◌, ◌-◌, ◌<◌}
 use mathlib.Core.Bool.{Bool, true, false, cond, not, ◌||◌}
 use mathlib.Core.List.{List}
-use mathlib.Core.Option.{Option, none, some}
 use mathlib.Core.Path.{◌≡◌, refl, sym, ap, ◌∙◌}
 use native.Mathlib.Omega.{arith}
 use borrow.Author.Tests.{lt-ltb}
-use Rattle.model.specs.Bytes.{same_bytes, find, is_some}
+use Rattle.std.specs.Option.{is_some}
+use Rattle.model.specs.Bytes.{same_bytes, find}
 use Rattle.model.specs.Tree.{Tree, is_directory, is_link, holds, lookup, under, mount_on, covered}
 use Rattle.model.specs.Walk.{place_at, same_place, root_of, climb}
 use Rattle.model.specs.Answers.{refuse_if}
@@ -24,15 +25,15 @@ use Rattle.isolation.proofs.Reach.{Good, origin, entered, reach-on, reach-inside
 
 -- two searches find nothing, or the number at the same distance from where each began
 pub data Together (at at' count : ℕ) (o o' : Option ℕ) : Type 0 where
-  nowhere : o ≡ none → o' ≡ none → Together at at' count o o'
-  alongside : (i : ℕ) → i < count → o ≡ some (at + i) → o' ≡ some (at' + i) → Together at at' count o o'
+  nowhere : o ≡ None → o' ≡ None → Together at at' count o o'
+  alongside : (i : ℕ) → i < count → o ≡ Some (at + i) → o' ≡ Some (at' + i) → Together at at' count o o'
 
 later-together : (at at' count : ℕ) {o o' : Option ℕ} → Together (suc at) (suc at') count o o' → Together at at' (suc count) o o'
 later-together at at' count (nowhere e e') = nowhere e e'
 later-together at at' count (alongside i l e e') =
     let f : suc at + i ≡ at + suc i = omega arith in
     let f' : suc at' + i ≡ at' + suc i = omega arith in
-    alongside (suc i) (omega arith) (e ∙ ap some f) (e' ∙ ap some f')
+    alongside (suc i) (omega arith) (e ∙ ap Some f) (e' ∙ ap Some f')
 
 find-together : (p q : ℕ → Bool) (at at' count : ℕ) → ((i : ℕ) → i < count → p (at + i) ≡ q (at' + i)) → Together at at' count (find p at count) (find q at' count)
 unfolding find
@@ -47,8 +48,8 @@ find-together p q at at' (suc count) same =
     ap p f ∙ same (suc i) (omega arith) ∙ ap q (sym f')) in
     rw first (by (q at') (later-together at at' count (find-together p q (suc at) (suc at') count on)))
   where
-    by : (b : Bool) {o o' : Option ℕ} → Together at at' (suc count) o o' → Together at at' (suc count) (cond b (some at) o) (cond b (some at') o')
-    by true later = let a : at ≡ at + 0 = omega arith in let a' : at' ≡ at' + 0 = omega arith in alongside 0 (omega arith) (ap some a) (ap some a')
+    by : (b : Bool) {o o' : Option ℕ} → Together at at' (suc count) o o' → Together at at' (suc count) (cond b (Some at) o) (cond b (Some at') o')
+    by true later = let a : at ≡ at + 0 = omega arith in let a' : at' ≡ at' + 0 = omega arith in alongside 0 (omega arith) (ap Some a) (ap Some a')
     by false later = later
 
 -- two sound trees with the part of a place in common that is good in both
@@ -73,7 +74,7 @@ module _ {t u : Tree} {h : Place} (w : Shared t u h) where
   unfolding covered
   covered-there {p} r = ap is_some (w.common p r).same_mount
 
-  pub root-there : {p : Place} (m : ℕ) → Reachable t h p → mount_on t p ≡ some m → root_of t m ≡ root_of u m
+  pub root-there : {p : Place} (m : ℕ) → Reachable t h p → mount_on t p ≡ Some m → root_of t m ≡ root_of u m
   unfolding root_of
   root-there {p} m r on = ap (place_at m) ((w.common p r).same_root m on)
 
@@ -143,8 +144,8 @@ module _ {t u : Tree} {h : Place} (w : Shared t u h) where
       (by (is_directory t k.node) refl)
     where
       by : (b : Bool) → is_directory t k.node ≡ b
-          → refuse_if (not b) Enotdir (refuse_if (not (under t k.node (t.mount_root k.mount)) || covered t (place_of k)) Ebadf none)
-          ≡ refuse_if (not b) Enotdir (refuse_if (not (under u k.node (u.mount_root k.mount)) || covered t (place_of k)) Ebadf none)
+          → refuse_if (not b) Enotdir (refuse_if (not (under t k.node (t.mount_root k.mount)) || covered t (place_of k)) Ebadf None)
+          ≡ refuse_if (not b) Enotdir (refuse_if (not (under u k.node (u.mount_root k.mount)) || covered t (place_of k)) Ebadf None)
       by true d = rw (reach-under t w.sound w.good r d, reach-under u w.sound' w.good' (carry r) (sym (same-directory r) ∙ d))
       by false d = refl
 

@@ -1,15 +1,17 @@
 -- One component, taken at a reachable place of two tables that have the part in common: under the restrictions it comes to the same turn in both, and to
 -- a reachable place or a refusal. Assumes nothing.
+use Rattle.std.specs.Prelude.{Option, None, Some}
+use Rattle.std.proofs.lemmas.Bool.{and_parts}
 use Prim.Native.Nat.{ℕ, zero, suc, ◌+◌}
-use mathlib.Core.Bool.{Bool, true, false, cond, not, ◌&&◌, ◌||◌, true≢false}
+use mathlib.Core.Bool.{Bool, true, false, cond, not, ◌&&◌, ◌||◌}
 use mathlib.Core.List.{List, [], ◌∷◌}
-use mathlib.Core.Option.{Option, none, some}
 use mathlib.Core.Path.{◌≡◌, refl, sym, ap, ◌∙◌}
 use native.Mathlib.Omega.{arith}
 use borrow.Author.Tests.{eqb-true}
 use lib.Dec.{eqb, ltb}
 use lib.ListN.{length}
-use Rattle.model.specs.Bytes.{same_bytes, ascii, is_some}
+use Rattle.std.specs.Option.{is_some}
+use Rattle.model.specs.Bytes.{same_bytes, ascii}
 use Rattle.model.specs.Tree.{Tree, is_directory, is_link, mount_on, covered}
 use Rattle.model.specs.Path.{Component, absolute}
 use Rattle.model.specs.Trace.{Event, Escape, Cross, Link, Jump, mark, beneath, Restrictions, forbid_any}
@@ -21,7 +23,7 @@ use Rattle.model.specs.declared.State.{State}
 use Rattle.model.specs.declared.Errno.{Errno}
 use Rattle.model.specs.declared.Errno.TheVariants.{Enametoolong, Enoent, Exdev}
 use Rattle.laws.specs.Acceptance.{Sound}
-use Rattle.laws.proofs.Cases.{both, first_of, cond_both}
+use Rattle.laws.proofs.Cases.{first_of, cond_both}
 use Rattle.laws.proofs.EntryLaws.{held-holds}
 use Rattle.isolation.specs.Reachable.{Reachable, here, down, into}
 use Rattle.isolation.proofs.Reach.{Good, origin, entered, way_up, origin-reached, origin-uncovered, climbs, not_root, root-bare}
@@ -44,8 +46,8 @@ Inward t h (went s) = Standing t h s.place
 Inward t h (followed cs s) = Standing t h s.place
 
 inward-by : (t : Tree) (h : Place) (o : Option Errno) (s : State) (x : Turn) → Inward t h x → Inward t h (turn_by o s x)
-inward-by t h none s x i = i
-inward-by t h (some e) s x i = tt
+inward-by t h None s x i = i
+inward-by t h (Some e) s x i = tt
 
 -- two transitions come to the same turn, which leads inward
 pub record Alike (t : Tree) (h : Place) (R : Restrictions) (x y : Transition) : Type 0 where
@@ -85,7 +87,7 @@ module _ {t u : Tree} {h : Place} (w : Shared t u h) (R : Restrictions) (in_root
     where
       by : (r : Bool) → in_root ≡ r → r ≡ true
       by true e = refl
-      by false e = absurd (true≢false (sym (scope e) ∙ off))
+      by false e = cc (scope e)
 
   module _ (pending : List Component) (s : State) where
     -- two steps come to the same turn, with a number of links left
@@ -138,8 +140,8 @@ module _ {t u : Tree} {h : Place} (w : Shared t u h) (R : Restrictions) (in_root
       -- a mount is entered alike
       enter-by : {q : Place} → Reachable t h q → (o : Option ℕ) → mount_on t q ≡ o → Steps links (along (enter_by t q o)) (along (enter_by u q o))
       unfolding covered
-      enter-by r none on = gone links [] (record { reached = r; bare = ap is_some on })
-      enter-by {q} r (some m) on =
+      enter-by r None on = gone links [] (record { reached = r; bare = ap is_some on })
+      enter-by {q} r (Some m) on =
           rw (← root-there w m r on) (gone links (Cross ∷ []) (record { reached = into m r on refl; bare = root-bare t w.sound w.good q m on }))
 
       enter-alike : {q : Place} → Reachable t h q → Steps links (along (enter t q)) (along (enter u q))
@@ -164,7 +166,7 @@ module _ {t u : Tree} {h : Place} (w : Shared t u h) (R : Restrictions) (in_root
         unfolding step_to
         step-alike last n r =
             rw (← same-link w r)
-            (cond_both (Steps links) (is_link t n && (not last || follow_last)) (λ e. link-alike n r (both (is_link t n) _ e).0) (λ _. enter-alike r))
+            (cond_both (Steps links) (is_link t n && (not last || follow_last)) (λ e. link-alike n r (and_parts (is_link t n) _ e).0) (λ _. enter-alike r))
 
         module _ (d : is_directory t p.node ≡ true) where
           entry-alike : (last : Bool) {o o' : Option ℕ} → Together (t.first p.node) (u.first p.node) (t.count p.node) o o'

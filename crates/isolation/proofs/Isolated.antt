@@ -1,10 +1,9 @@
 -- The two claims about a confined call. The first is the second of a table and itself. Assumes nothing.
+use Rattle.std.specs.Prelude.{Option, None, Some}
 use Prim.Native.Nat.{ℕ}
-use mathlib.Core.Bool.{Bool, true, false, ◌||◌, true≢false, false≢true}
+use mathlib.Core.Bool.{Bool, true, false, ◌||◌}
 use mathlib.Core.List.{List}
-use mathlib.Core.Option.{Option, none, some}
 use mathlib.Core.Path.{◌≡◌, refl}
-use native.Mathlib.Omega.{arith}
 use Rattle.model.specs.Bytes.{has}
 use Rattle.model.specs.Tree.{Tree, tree_of}
 use Rattle.model.specs.OpenHow.{flags_of, resolve_of, O_DIRECTORY, BENEATH, IN_ROOT}
@@ -27,9 +26,9 @@ use Rattle.isolation.proofs.Walks.{Traces, path-alike}
 scope-by : (b r m : Bool) → (b || r || m) ≡ true → r ≡ false → (m || b) ≡ true
 scope-by true r true e off = refl
 scope-by true r false e off = refl
-scope-by false true m e off = absurd (true≢false off)
+scope-by false true m e off = cc
 scope-by false false true e off = refl
-scope-by false false false e off = absurd (false≢true e)
+scope-by false false false e off = cc
 
 pub scope_of : (call : Call) → is_scoped call ≡ true → has IN_ROOT (resolve_of call.how) ≡ false → (restrictions call mark || restrictions call beneath) ≡ true
 unfolding is_scoped restrictions
@@ -80,8 +79,8 @@ module _ (image image' : List ℕ) (call : Call) (s : Sharing image image' call.
 
   stays_by : (o : Option Refusal) → refused_before image call ≡ o → StaysInside image call
   unfolding resolve places_of Each
-  stays_by (some r) e = record { stood_inside = rw e tt; found_inside = λ found is. absurd (let z : ◌≡◌ {A = ℕ} 0 1 = cc in omega arith) }
-  stays_by none e = record { stood_inside = rw e traces.stood; found_inside = λ found is. traces.found found (rw e at is) }
+  stays_by (Some r) e = record { stood_inside = rw e tt; found_inside = λ found is. cc }
+  stays_by None e = record { stood_inside = rw e traces.stood; found_inside = λ found is. traces.found found (rw e at is) }
 
 pub outside-makes-no-difference : OutsideMakesNoDifference
 outside-makes-no-difference = same-answers

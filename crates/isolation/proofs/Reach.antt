@@ -1,14 +1,15 @@
 -- Reachable places of one table: they lie in the tree, not below their mount's root, and ".." leads from one to where it was reached from.
 -- Assumes nothing.
+use Rattle.std.specs.Prelude.{Option, None, Some}
+use Rattle.std.proofs.lemmas.Bool.{and_parts, or_parts, false_from_ne_true, cases_lt}
 use Prim.Native.Nat.{ℕ, ◌≤◌, ◌<◌}
 use mathlib.Core.Bool.{Bool, true, false, not, ◌&&◌, ◌||◌, or-true, true≢false}
 use mathlib.Core.Logic.{⊎_elim}
-use mathlib.Core.Option.{Option, none, some}
 use mathlib.Core.Path.{◌≡◌, refl, sym, ap, ◌∙◌, subst}
 use native.Mathlib.Omega.{arith}
 use borrow.Author.Tests.{ltb-true, eqb-true, eq-eqb, ne_eqb, not-false}
 use lib.Dec.{eqb, ltb}
-use Rattle.model.specs.Bytes.{is_some}
+use Rattle.std.specs.Option.{is_some}
 use Rattle.model.specs.Tree.{Tree, is_directory, holds, under, mount_on, covered}
 use Rattle.model.specs.Trace.{Cross}
 use Rattle.model.specs.Walk.{place_at, same_place, root_of, point_of, Move, stay_at, after, after_if, enter, to_parent, climb}
@@ -20,7 +21,6 @@ use Rattle.laws.specs.Acceptance.{Sound}
 use Rattle.laws.specs.Inside.{Inside}
 use Rattle.laws.proofs.Acceptance.{entries-inside, entry-facts, point-directory, mount-on-below}
 use Rattle.laws.proofs.ByteLaws.{find-some}
-use Rattle.laws.proofs.Cases.{both, neither, fails, below_or}
 use Rattle.laws.proofs.EntryLaws.{holds-held, directory-stands}
 use Rattle.laws.proofs.Inside.{root_inside}
 use Rattle.laws.proofs.MountLaws.{mount-on-root}
@@ -35,33 +35,33 @@ pub record Good (t : Tree) (h : Place) : Type 0 where
   pub under-root : under t h.node (t.mount_root h.mount) ≡ true
   pub uncovered : covered t h ≡ false
 
-pub good-handle : (t : Tree) (h : Handle) → handle_refused t h ≡ none → Good t (place_of h)
+pub good-handle : (t : Tree) (h : Handle) → handle_refused t h ≡ None → Good t (place_of h)
 unfolding handle_refused
 good-handle t h e =
     let a = passes (not (ltb h.mount t.mounts && ltb h.node t.nodes)) Ebadf _ e in
     let b = passes (not (is_directory t h.node)) Enotdir _ a.1 in
-    let c = passes (not (under t h.node (t.mount_root h.mount)) || covered t (place_of h)) Ebadf none b.1 in
-    let d = neither (not (under t h.node (t.mount_root h.mount))) (covered t (place_of h)) c.0 in
+    let c = passes (not (under t h.node (t.mount_root h.mount)) || covered t (place_of h)) Ebadf None b.1 in
+    let d = or_parts (not (under t h.node (t.mount_root h.mount))) (covered t (place_of h)) c.0 in
     record { inside = handle-inside t h e; is-directory = not-false _ b.0; under-root = not-false _ d.0; uncovered = d.1 }
 
 -- a place that is not covered has no mount on it, and one with a mount on it is covered
-pub no-mount : (t : Tree) (p : Place) → covered t p ≡ false → mount_on t p ≡ none
+pub no-mount : (t : Tree) (p : Place) → covered t p ≡ false → mount_on t p ≡ None
 unfolding covered
 no-mount t p e = by (mount_on t p) e
   where
-    by : (o : Option ℕ) → is_some o ≡ false → o ≡ none
-    by none f = refl
-    by (some m) f = absurd (true≢false f)
+    by : (o : Option ℕ) → is_some o ≡ false → o ≡ None
+    by None f = refl
+    by (Some m) f = cc
 
-covers : (t : Tree) (p : Place) (m : ℕ) → mount_on t p ≡ some m → covered t p ≡ true
+covers : (t : Tree) (p : Place) (m : ℕ) → mount_on t p ≡ Some m → covered t p ≡ true
 unfolding covered
 covers t p m e = rw e
 
 -- the mount on a place hangs there
-point-of : (t : Tree) (p : Place) (m : ℕ) → mount_on t p ≡ some m → point_of t m ≡ p
+point-of : (t : Tree) (p : Place) (m : ℕ) → mount_on t p ≡ Some m → point_of t m ≡ p
 unfolding mount_on point_of
 point-of t p m e =
-    let b = both _ _ (find-some _ 1 _ m e).passes in
+    let b = and_parts _ _ (find-some _ 1 _ m e).passes in
     let x = eqb-true _ _ b.0 in
     let y = eqb-true _ _ b.1 in
     λ i. place_at (x i) (y i)
@@ -69,7 +69,7 @@ point-of t p m e =
 pub same_place_lem : (p q : Place) → same_place p q ≡ true → p ≡ q
 unfolding same_place
 same_place_lem p q e =
-    let b = both _ _ e in
+    let b = and_parts _ _ e in
     let x = eqb-true _ _ b.0 in
     let y = eqb-true _ _ b.1 in
     λ i. place_at (x i) (y i)
@@ -123,7 +123,7 @@ module _ (t : Tree) (sound : Sound t) {h : Place} (good : Good t h) where
   entry-parent : (n e : ℕ) → holds t n e ≡ true → is_directory t (t.entry_node e) ≡ true → (t.parent (t.entry_node e) ≡ n) × (n < t.entry_node e)
   entry-parent n e held d =
       let stands = sym (directory-stands t sound.nodes_hold.directories_hold (holds-held t n e held) d) ∙ (entry-facts t sound e (entry-below n e held)).3 in
-      let b = both _ _ stands in
+      let b = and_parts _ _ stands in
       let is : t.parent (t.entry_node e) ≡ n = eqb-true _ _ b.0 in
       let up : t.parent (t.entry_node e) < t.entry_node e = ltb-true _ _ b.1 in
       (is, omega arith)
@@ -140,9 +140,9 @@ module _ (t : Tree) (sound : Sound t) {h : Place} (good : Good t h) where
   handle-above =
       let root = t.mount_root h.mount in
       ⊎_elim
-      (λ (l : h.node < root). absurd (true≢false (sym good.under-root ∙ under_low t sound.nodes_hold.directories_hold root h.node good.is-directory l)))
+      (λ (l : h.node < root). cc (good.under-root, under_low t sound.nodes_hold.directories_hold root h.node good.is-directory l))
       (λ (l : root ≤ h.node). l)
-      (below_or h.node root)
+      (cases_lt h.node root)
 
   reach-above : {p : Place} → Reachable t h p → is_directory t p.node ≡ true → t.mount_root p.mount ≤ p.node
   unfolding root_of
@@ -174,21 +174,21 @@ module _ (t : Tree) (sound : Sound t) {h : Place} (good : Good t h) where
       (rw (is, up.0, no-mount t p un), rw is (ne_eqb (t.entry_node e) (t.mount_root p.mount) (λ z. omega (arith, z, above, up.1))))
 
   -- from the root of the mount on a place, as from that place
-  mount-climbs : (p : Place) {q : Place} (m : ℕ) → mount_on t p ≡ some m → q ≡ root_of t m → climb t q ≡ after Cross (to_parent t p)
+  mount-climbs : (p : Place) {q : Place} (m : ℕ) → mount_on t p ≡ Some m → q ≡ root_of t m → climb t q ≡ after Cross (to_parent t p)
   unfolding climb root_of
   mount-climbs p {q} m on is = rw (is, eq-eqb (t.mount_root m) (t.mount_root m) refl, point-of t p m on)
 
   -- no mount hangs on another's root
-  pub root-bare : (p : Place) (m : ℕ) → mount_on t p ≡ some m → covered t (root_of t m) ≡ false
+  pub root-bare : (p : Place) (m : ℕ) → mount_on t p ≡ Some m → covered t (root_of t m) ≡ false
   unfolding covered root_of
   root-bare p m on = ap is_some (mount-on-root t sound.mounts_hold m (t.mount_root m) (mount-on-below t p m on).1 refl)
 
   -- a covered place is not the handle, and no mount's root: it is reached down a name
   covered-climbs : {p : Place} (r : Reachable t h p) → covered t p ≡ true → is_directory t p.node ≡ true → to_parent t p ≡ stay_at (origin r)
   unfolding origin
-  covered-climbs (here e) c d = absurd (true≢false (sym c ∙ ap (covered t) e ∙ good.uncovered))
+  covered-climbs (here e) c d = cc good.uncovered
   covered-climbs (down e r un held is) c d = (down-climbs e r un held is d).0
-  covered-climbs (into {p} m r on is) c d = absurd (true≢false (sym c ∙ ap (covered t) is ∙ root-bare p m on))
+  covered-climbs (into {p} m r on is) c d = cc (root-bare p m on)
 
   -- ".." from a reachable directory that is not the handle leads to where it was reached from
   pub climbs : {p : Place} (r : Reachable t h p) → same_place p h ≡ false → is_directory t p.node ≡ true → climb t p ≡ way_up r
@@ -204,11 +204,11 @@ module _ (t : Tree) (sound : Sound t) {h : Place} (good : Good t h) where
   unfolding same_place root_of
   not_root (here e) other d = absurd (not-other e other)
   not_root {p} (down e r un held is) other d =
-      fails _ (λ same.
-      let b = both (eqb p.mount 0) _ same in
+      false_from_ne_true _ (λ same.
+      let b = and_parts (eqb p.mount 0) _ same in
       let node : p.node ≡ t.mount_root p.mount = eqb-true _ _ b.1 ∙ ap t.mount_root (sym (eqb-true _ _ b.0)) in
-      true≢false (sym (eq-eqb _ _ node) ∙ (down-climbs e r un held is d).1))
+      cc (eq-eqb _ _ node, (down-climbs e r un held is d).1))
   not_root {p} (into {p = q} m r on is) other d =
-      fails _ (λ same.
-      let first : m ≡ 0 = ap (λ (x : Place). x.mount) (sym is) ∙ eqb-true _ _ (both (eqb p.mount 0) _ same).0 in
+      false_from_ne_true _ (λ same.
+      let first : m ≡ 0 = ap (λ (x : Place). x.mount) (sym is) ∙ eqb-true _ _ (and_parts (eqb p.mount 0) _ same).0 in
       omega (arith, (mount-on-below t q m on).0))

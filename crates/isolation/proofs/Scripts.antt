@@ -1,8 +1,9 @@
 -- The claims of descriptors: one open, and a whole script. Assumes nothing.
+use Rattle.std.specs.Prelude.{Option, None, Some, Ok}
+use Rattle.std.proofs.lemmas.Bool.{and_parts}
 use Prim.Native.Nat.{ℕ, zero, suc}
 use mathlib.Core.Bool.{Bool, true, false, cond}
 use mathlib.Core.List.{List, [], ◌∷◌}
-use mathlib.Core.Option.{Option, none, some}
 use mathlib.Core.Path.{◌≡◌, refl, sym, ap, ◌∙◌, subst}
 use native.Mathlib.Omega.{arith}
 use borrow.Author.Tests.{not-true}
@@ -28,9 +29,8 @@ use Rattle.model.specs.declared.Place.{Place}
 use Rattle.model.specs.declared.Reached.{Reached}
 use Rattle.model.specs.declared.Refusal.{Refusal}
 use Rattle.model.specs.declared.Reply.{Reply}
-use Rattle.model.specs.declared.Verdict.TheVariants.{Accepted}
 use Rattle.model.specs.declared.Reply.TheVariants.{Opened}
-use Rattle.laws.proofs.Cases.{both, cond_cases}
+use Rattle.laws.proofs.Cases.{cond_cases}
 use Rattle.laws.proofs.DescriptorLaws.{serve-cases}
 use Rattle.isolation.specs.Reachable.{Reachable, Each}
 use Rattle.isolation.specs.Claims.{is_scoped, Sharing}
@@ -79,19 +79,19 @@ unfolding slot_at
 held-inside t p slots all d k held = subst (SlotInside t p) held (cond_cases (SlotInside t p) (ltb d 64) _ _ (λ _. each-get (SlotInside t p) slots d closed all tt) (λ _. tt))
 
 -- the last of three refusals, where the first two are not there
-behind-both : (first second : Option Refusal) (r : Refusal) (x : Answer) → unless_refused (or_else first (or_else second (some r))) x ≡ unless_refused (or_else first second) (Refused r)
-behind-both (some a) second r x = refl
-behind-both none (some b) r x = refl
-behind-both none none r x = refl
+behind-both : (first second : Option Refusal) (r : Refusal) (x : Answer) → unless_refused (or_else first (or_else second (Some r))) x ≡ unless_refused (or_else first second) (Refused r)
+behind-both (Some a) second r x = refl
+behind-both None (Some b) r x = refl
+behind-both None None r x = refl
 
-none-behind : (first second : Option Refusal) (x : Answer) → unless_refused (or_else first (or_else second none)) x ≡ unless_refused (or_else first second) x
-none-behind (some a) second x = refl
-none-behind none (some b) x = refl
-none-behind none none x = refl
+none-behind : (first second : Option Refusal) (x : Answer) → unless_refused (or_else first (or_else second None)) x ≡ unless_refused (or_else first second) x
+none-behind (Some a) second x = refl
+none-behind None (Some b) x = refl
+none-behind None None x = refl
 
 never-found : (o : Option Refusal) (r : Refusal) (found : Reached) → unless_refused o (Refused r) ≡ Found found → ⊥
-never-found none r found is = let z : ◌≡◌ {A = ℕ} 0 1 = cc in omega arith
-never-found (some a) r found is = let z : ◌≡◌ {A = ℕ} 0 1 = cc in omega arith
+never-found None r found is = cc
+never-found (Some a) r found is = cc
 
 -- A call from a bad handle is refused by its open_how or path, else by the handle or, where that is not checked, at Start.
 module _ (k : Handle) (path how : List ℕ) (scoped : is_scoped (call_of k path how) ≡ true) (e : Refusal) where
@@ -101,12 +101,12 @@ module _ (k : Handle) (path how : List ℕ) (scoped : is_scoped (call_of k path 
   abbrev badly : Answer
   badly = unless_refused (or_else (how_refused how) (path_refused path)) (Refused (cond (handle_unchecked call) (refusal (scope_error (restrictions call)) not_walked) e))
 
-  module _ (image : List ℕ) (accepted : table_check image ≡ Accepted) (bad : handle_refused (tree_of image) k ≡ some e) where
+  module _ (image : List ℕ) (accepted : table_check image ≡ Ok tt) (bad : handle_refused (tree_of image) k ≡ Some e) where
     started : handle_unchecked call ≡ true → resolve image call ≡ badly
     unfolding resolve refused_before refused_after_table handle_unchecked trace_of walk_path answer
     started un =
-        let a = both _ _ un in
-        let b = both (absolute path) _ a.0 in
+        let a = and_parts _ _ un in
+        let b = and_parts (absolute path) _ a.0 in
         rw (accepted, un, b.0, start-stops (restrictions call) (scope_of call scoped (not-true _ b.1))) (none-behind (how_refused how) (path_refused path) _)
 
     checked : handle_unchecked call ≡ false → resolve image call ≡ badly
@@ -135,18 +135,18 @@ module _ (image image' : List ℕ) (h : Handle) (s : Sharing image image' h) whe
 
   -- a call from any reachable place, be it a good handle or not
   module _ (k : Handle) (r : Reachable t (place_of h) (place_of k)) (path how : List ℕ) (scoped : is_scoped (call_of k path how) ≡ true) where
-    sharing-good : handle_refused t k ≡ none → Sharing image image' k
+    sharing-good : handle_refused t k ≡ None → Sharing image image' k
     sharing-good good =
         record { accepted = s.accepted; accepted' = s.accepted'; good = good; good' = sym (handles-alike shared k r) ∙ good; common = common-within s.common r }
 
     answers_by : (o : Option Refusal) → handle_refused t k ≡ o → resolve image (call_of k path how) ≡ resolve image' (call_of k path how)
-    answers_by none good = (outside-makes-no-difference image image' (call_of k path how) (sharing-good good) scoped).answers
-    answers_by (some e) bad =
+    answers_by None good = (outside-makes-no-difference image image' (call_of k path how) (sharing-good good) scoped).answers
+    answers_by (Some e) bad =
         bad-answers k path how scoped e image s.accepted bad ∙ sym (bad-answers k path how scoped e image' s.accepted' (sym (handles-alike shared k r) ∙ bad))
 
     finds-by : (o : Option Refusal) → handle_refused t k ≡ o → (found : Reached) → resolve image (call_of k path how) ≡ Found found → Reachable t (place_of h) found.place
-    finds-by none good found told = reach-on r ((never-outside image (call_of k path how) (record { accepted = s.accepted; good = good; scoped = scoped })).found_inside found told)
-    finds-by (some e) bad found told = absurd (bad-finds k path how scoped e found (sym (bad-answers k path how scoped e image s.accepted bad) ∙ told))
+    finds-by None good found told = reach-on r ((never-outside image (call_of k path how) (record { accepted = s.accepted; good = good; scoped = scoped })).found_inside found told)
+    finds-by (Some e) bad found told = absurd (bad-finds k path how scoped e found (sym (bad-answers k path how scoped e image s.accepted bad) ∙ told))
 
     answers-alike : resolve image (call_of k path how) ≡ resolve image' (call_of k path how)
     answers-alike = answers_by (handle_refused t k) refl
@@ -195,7 +195,7 @@ module _ (image image' : List ℕ) (h : Handle) (s : Sharing image image' h) whe
   unfolding replies_to slots_after script_scoped
   script slots [] all scoped = record { replies = refl; slots_alike = refl; inside_after = all }
   script slots (call ∷ calls) all scoped =
-      let b = both _ _ scoped in
+      let b = and_parts _ _ scoped in
       let same = served-alike slots all call b.0 in
       let later = script (serve image slots call).slots calls (served-inside slots all call b.0) b.1 in
       record {

@@ -1,9 +1,9 @@
 -- What a transition comes to under restrictions, as a turn: a walk's answer and the places that it stands on are read off these turns alone.
 -- Assumes nothing.
-use mathlib.Core.Bool.{Bool, true, false, cond, ◌||◌, false≢true}
+use Rattle.std.specs.Prelude.{Option, None, Some}
+use mathlib.Core.Bool.{Bool, true, false, cond, ◌||◌}
 use mathlib.Core.List.{List, [], ◌∷◌}
 use mathlib.Core.Logic.{◌⊎◌, inl, inr}
-use mathlib.Core.Option.{Option, none, some}
 use mathlib.Core.Path.{◌≡◌, refl, ◌∙◌}
 use Rattle.model.specs.Bytes.{or_else, if_none}
 use Rattle.model.specs.Path.{Component}
@@ -17,8 +17,8 @@ use Rattle.laws.proofs.TraceLaws.{meets-answer, meets-stood}
 
 -- a turn, unless an event before it is refused
 abbrev pub turn_by : Option Errno → State → Turn → Turn
-turn_by none s x = x
-turn_by (some e) s x = refuses e s
+turn_by None s x = x
+turn_by (Some e) s x = refuses e s
 
 abbrev pub turn_under : Restrictions → Transition → Turn
 turn_under R x = turn_by (forbid_any R x.events) x.met x.turn
@@ -26,16 +26,16 @@ turn_under R x = turn_by (forbid_any R x.events) x.met x.turn
 module _ (R : Restrictions) (on : State → Trace) (later : List Component → State → Trace) (x : Transition) where
   answer-by : (o : Option Errno) → refused_by o x.met.progress (answer R (turned on later x.turn)) ≡ answer R (turned on later (turn_by o x.met x.turn))
   unfolding answer
-  answer-by none = refl
-  answer-by (some e) = refl
+  answer-by None = refl
+  answer-by (Some e) = refl
 
   pub traced-answer : answer R (traced on later x) ≡ answer R (turned on later (turn_under R x))
   traced-answer = meets-answer R x.events x.met.progress (turned on later x.turn) ∙ answer-by (forbid_any R x.events)
 
   stood-by : (o : Option Errno) → if_none o (stood_on R (turned on later x.turn)) ≡ stood_on R (turned on later (turn_by o x.met x.turn))
   unfolding stood_on
-  stood-by none = refl
-  stood-by (some e) = refl
+  stood-by None = refl
+  stood-by (Some e) = refl
 
   pub traced-stood : stood_on R (traced on later x) ≡ stood_on R (turned on later (turn_under R x))
   traced-stood = meets-stood R x.events x.met.progress (turned on later x.turn) ∙ stood-by (forbid_any R x.events)
@@ -45,21 +45,21 @@ abbrev pub scope_error : Restrictions → Errno
 scope_error R = cond (R mark) Enoent Exdev
 
 module _ (R : Restrictions) where
-  scope-cond : (m b : Bool) (o : Option Errno) → (m || b) ≡ true → cond m (some Enoent) (cond b (some Exdev) o) ≡ some (cond m Enoent Exdev)
+  scope-cond : (m b : Bool) (o : Option Errno) → (m || b) ≡ true → cond m (Some Enoent) (cond b (Some Exdev) o) ≡ Some (cond m Enoent Exdev)
   scope-cond true b o e = refl
   scope-cond false true o e = refl
-  scope-cond false false o e = absurd (false≢true e)
+  scope-cond false false o e = cc
 
   module _ (scope : (R mark || R beneath) ≡ true) where
-    pub start-stops : forbids R Start ≡ some (scope_error R)
+    pub start-stops : forbids R Start ≡ Some (scope_error R)
     unfolding forbids row first_set
-    start-stops = scope-cond (R mark) (R beneath) none scope
+    start-stops = scope-cond (R mark) (R beneath) None scope
 
-    pub escape-stops : forbids R Escape ≡ some (scope_error R)
+    pub escape-stops : forbids R Escape ≡ Some (scope_error R)
     unfolding forbids row first_set
-    escape-stops = scope-cond (R mark) (R beneath) none scope
+    escape-stops = scope-cond (R mark) (R beneath) None scope
 
-    jump-stops : (elsewhere : Bool) → forbids R (Jump elsewhere) ≡ some (scope_error R)
+    jump-stops : (elsewhere : Bool) → forbids R (Jump elsewhere) ≡ Some (scope_error R)
     unfolding forbids row first_set
     jump-stops elsewhere = scope-cond (R mark) (R beneath) (first_set R (given elsewhere (no_xdev, Exdev))) scope
 
@@ -68,7 +68,7 @@ module _ (R : Restrictions) where
   magic_error = cond (R mark) Enoent (cond (R no_magiclinks) Eloop Exdev)
 
   abbrev MagicRow : Option Errno → Type 0
-  MagicRow o = (o ≡ some magic_error) ⊎ ((o ≡ none) × (magic_error ≡ Exdev) × ((R mark || R beneath) ≡ false))
+  MagicRow o = (o ≡ Some magic_error) ⊎ ((o ≡ None) × (magic_error ≡ Exdev) × ((R mark || R beneath) ≡ false))
 
   magic-row : (elsewhere m n x b : Bool) → R mark ≡ m → R no_magiclinks ≡ n → R no_xdev ≡ x → R beneath ≡ b → MagicRow (forbids R (Magic elsewhere))
   unfolding forbids row first_set
@@ -85,7 +85,7 @@ module _ (R : Restrictions) where
   link_error = cond (R no_symlinks) Eloop magic_error
 
   magic-by : (s : State) (x : Turn) (l : Bool) (o : Option Errno) → ((R mark || R beneath) ≡ false → x ≡ refuses Exdev s) → MagicRow o
-      → turn_by (or_else (cond l (some Eloop) none) (or_else o none)) s x ≡ refuses (cond l Eloop magic_error) s
+      → turn_by (or_else (cond l (Some Eloop) None) (or_else o None)) s x ≡ refuses (cond l Eloop magic_error) s
   magic-by s x true o else row = refl
   magic-by s x false o else (inl e) = rw e
   magic-by s x false o else (inr e) = rw (e.0, e.1) (else e.2)
@@ -98,8 +98,8 @@ module _ (R : Restrictions) where
       (magic-row elsewhere (R mark) (R no_magiclinks) (R no_xdev) (R beneath) refl refl refl refl)
 
   -- so is following one that jumps, where the mark or BENEATH is set
-  jump-by : (s : State) (x : Turn) (l : Bool) {o : Option Errno} → o ≡ some (scope_error R)
-      → turn_by (or_else (cond l (some Eloop) none) (or_else o none)) s x ≡ refuses (cond l Eloop (scope_error R)) s
+  jump-by : (s : State) (x : Turn) (l : Bool) {o : Option Errno} → o ≡ Some (scope_error R)
+      → turn_by (or_else (cond l (Some Eloop) None) (or_else o None)) s x ≡ refuses (cond l Eloop (scope_error R)) s
   jump-by s x true e = refl
   jump-by s x false e = rw e
 

@@ -1,6 +1,5 @@
 -- The two claims about a confined call (RULES 20.3, 20.6).
-use Rattle.std.specs.Prelude.{ℕ, Bool, true, ◌||◌, List, ◌≡◌}
-use mathlib.Core.Option.{none}
+use Rattle.std.specs.Prelude.{ℕ, Bool, true, ◌||◌, List, ◌≡◌, None, Ok}
 use Rattle.model.specs.Bytes.{has}
 use Rattle.model.specs.Tree.{tree_of}
 use Rattle.model.specs.TableCheck.{table_check}
@@ -10,7 +9,6 @@ use Rattle.model.specs.Resolve.{Call, resolve, places_of}
 use Rattle.model.specs.declared.Handle.{Handle}
 use Rattle.model.specs.declared.Answer.TheVariants.{Found}
 use Rattle.model.specs.declared.Reached.{Reached}
-use Rattle.model.specs.declared.Verdict.TheVariants.{Accepted}
 use Rattle.isolation.specs.Reachable.{Reachable, Each}
 use Rattle.isolation.specs.InCommon.{InCommon}
 
@@ -20,8 +18,8 @@ is_scoped call = has BENEATH (resolve_of call.how) || has IN_ROOT (resolve_of ca
 
 -- "For an accepted table, a good handle, and BENEATH, IN_ROOT or the mark" (RULES 20.1)
 pub record Confined (image : List ℕ) (call : Call) : Type 0 where
-  pub accepted : table_check image ≡ Accepted
-  pub good : handle_refused (tree_of image) call.handle ≡ none
+  pub accepted : table_check image ≡ Ok tt
+  pub good : handle_refused (tree_of image) call.handle ≡ None
   pub scoped : is_scoped call ≡ true
 
 -- "each place the walk stands on (none, if Start is refused) is reachable from the handle", and so is a place that is found (RULES 20.3)
@@ -34,10 +32,10 @@ NeverOutside = (image : List ℕ) (call : Call) → Confined image call → Stay
 
 -- "two accepted tables have this part in common, .. and the handle is good in both"
 pub record Sharing (image image' : List ℕ) (h : Handle) : Type 0 where
-  pub accepted : table_check image ≡ Accepted
-  pub accepted' : table_check image' ≡ Accepted
-  pub good : handle_refused (tree_of image) h ≡ none
-  pub good' : handle_refused (tree_of image') h ≡ none
+  pub accepted : table_check image ≡ Ok tt
+  pub accepted' : table_check image' ≡ Ok tt
+  pub good : handle_refused (tree_of image) h ≡ None
+  pub good' : handle_refused (tree_of image') h ≡ None
   pub common : InCommon (tree_of image) (tree_of image') (place_of h)
 
 -- the part is the same one from either table (RULES 20.4)

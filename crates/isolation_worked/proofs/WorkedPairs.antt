@@ -1,32 +1,26 @@
 -- The claims of isolation put to use: two pairs of tables agree on a part, and what one of a pair answers to confined calls is computed; what the other
 -- answers comes from the claims. Calls that are not confined tell the tables apart. Assumes nothing.
+use Rattle.std.specs.Prelude.{None, Ok}
 use Prim.Native.Nat.{ℕ, zero, suc}
 use mathlib.Core.Bool.{Bool, true, false}
 use mathlib.Core.List.{List, [], ◌∷◌, map}
-use mathlib.Core.Option.{none}
 use native.Mathlib.Omega.{arith}
 use lib.ListN.{replicate}
 use mathlib.Core.Path.{◌≡◌, refl, sym, ap, ap₂, ◌∙◌}
-use Rattle.model.specs.Bytes.{field, field_bytes, part, has, contains, same_bytes, before, find, first_failing, ascii}
-use Rattle.model.specs.Tree.{Tree, sizes_of, nodes_part, mounts_part, entries_part, text_part, tree_of, is_directory, is_link, holds, lookup, meets_within, under, mount_on, covered}
-use Rattle.model.specs.TableCheck.{rule1, rule2, counts_fit, whole_length, rule3, directory_count, sum_below, counts_before, directory_holds, file_holds, symlink_holds, magic_holds, node_holds, rule4}
-use Rattle.model.specs.TableCheck.{name_holds, follows, ascends, stands_in_parent, entry_holds, rule5, point_holds, shares_point, hangs, mount_holds}
-use Rattle.model.specs.TableCheck.{rule6, target_holds, magic_target_holds, rule7, records_check, table_check}
-use Rattle.model.specs.OpenHow.{flags_of, mode_of, padding_of, resolve_of, unknown_bit, tail_set, length_refused, mode_set, how_refused}
-use Rattle.model.specs.Path.{up_to_slash, components_from, components, absolute, ends_in_slash, path_refused}
+use Rattle.model.specs.Bytes.{ascii}
+use Rattle.model.specs.Tree.{Tree, tree_of}
+use Rattle.model.specs.TableCheck.{table_check}
 use Rattle.model.specs.Handles.{handle_refused}
-use Rattle.model.specs.Trace.{meets, row, first_set, forbids, answer}
-use Rattle.model.specs.Walk.{place_at, same_place, root_of, point_of, enter, to_parent, climb, at_top, go_up, magic_link, symbolic_link, follow_link}
-use Rattle.model.specs.Walk.{step_to, by_name, one_component, finish, transition, walk_pending, walk, begin_at, walk_path}
-use Rattle.model.specs.Resolve.{Call, call_of, handle_unchecked, refused_after_table, refused_before, restrictions, request_of, trace_of, resolve}
-use Rattle.model.specs.Descriptors.{closed, holding, DescriptorCall, handle_at, slot_at, lowest_free, asked_in_vain, serve, replies_to, slots_after}
+use Rattle.model.specs.Walk.{place_at}
+use Rattle.model.specs.Resolve.{Call, call_of, resolve}
+use Rattle.model.specs.Descriptors.{closed, holding, DescriptorCall, handle_at, slot_at, serve, replies_to, slots_after}
 use Rattle.model.specs.declared.Answer.{Answer}
 use Rattle.model.specs.declared.Answer.TheVariants.{Found, Refused}
 use Rattle.model.specs.declared.Place.{Place}
 use Rattle.model.specs.declared.Reply.{Reply}
 use Rattle.model.specs.declared.Reply.TheVariants.{Done}
-use Rattle.model.specs.declared.Verdict.TheVariants.{Accepted}
-use Rattle.model.proofs.BenchTree.{digit, hex_bytes, hex, bench_nodes, bench_mounts, bench_entries, bench, open_how, at}
+use Rattle.model.proofs.Computing.{of-descriptors, of-bench}
+use Rattle.model.proofs.BenchTree.{bench, open_how, at}
 use Rattle.model.proofs.Scripts.{calls, replies, plain, gives}
 use Rattle.model.proofs.WorkedTable.{worked}
 use Rattle.isolation.specs.Reachable.{Reachable, here, Each}
@@ -52,12 +46,12 @@ top p = asked p (plainly "/" 0 0 (at 0 0 0 0))
 
 -- what is computed: the tables accepted, the handles good, the tests passed, the answers of the bench tree, and what tells the tables apart
 record Computed : Type 0 where
-  moved-accepted : table_check moved ≡ Accepted
-  alone-accepted : table_check alone ≡ Accepted
-  cal-good : (marked : Bool) → handle_refused (tree_of bench) (handle_at cal marked) ≡ none
-  cal-good' : (marked : Bool) → handle_refused (tree_of moved) (handle_at cal marked) ≡ none
-  lab-good : (marked : Bool) → handle_refused (tree_of bench) (handle_at lab marked) ≡ none
-  lab-good' : (marked : Bool) → handle_refused (tree_of alone) (handle_at lab marked) ≡ none
+  moved-accepted : table_check moved ≡ Ok tt
+  alone-accepted : table_check alone ≡ Ok tt
+  cal-good : (marked : Bool) → handle_refused (tree_of bench) (handle_at cal marked) ≡ None
+  cal-good' : (marked : Bool) → handle_refused (tree_of moved) (handle_at cal marked) ≡ None
+  lab-good : (marked : Bool) → handle_refused (tree_of bench) (handle_at lab marked) ≡ None
+  lab-good' : (marked : Bool) → handle_refused (tree_of alone) (handle_at lab marked) ≡ None
   cal-agrees : agree (tree_of bench) (tree_of moved) cal ≡ true
   lab-agrees : agree (tree_of bench) (tree_of alone) lab ≡ true
   cal-scoped : map (λ c. is_scoped (asked cal c)) cal_rows ≡ map (λ c. true) cal_rows
@@ -72,20 +66,8 @@ record Computed : Type 0 where
   top-of-alone : (p : Place) → resolve alone (top p) ≡ at 0 1 0 0
 
 computed : Computed
-unfolding field field_bytes part has contains same_bytes before find first_failing ascii
-    sizes_of nodes_part mounts_part entries_part text_part tree_of is_directory is_link holds lookup meets_within under mount_on covered
-    rule1 rule2 counts_fit whole_length rule3 directory_count sum_below counts_before directory_holds file_holds symlink_holds magic_holds node_holds rule4
-    name_holds follows ascends stands_in_parent entry_holds rule5 point_holds shares_point hangs mount_holds rule6 target_holds magic_target_holds rule7 records_check table_check
-    flags_of mode_of padding_of resolve_of unknown_bit tail_set length_refused mode_set how_refused
-    up_to_slash components_from components absolute ends_in_slash path_refused handle_refused
-    meets row first_set forbids answer
-    same_place root_of point_of enter to_parent climb at_top go_up magic_link symbolic_link follow_link
-    step_to by_name one_component finish transition walk_pending walk begin_at walk_path
-    handle_unchecked refused_after_table refused_before restrictions request_of trace_of resolve
-    all_below all_of listed entry_agrees names_agree place_agrees agree_on join_names part_of agree
-    slot_at lowest_free asked_in_vain serve replies_to slots_after is_scoped script_scoped
-    digit hex_bytes hex bench_nodes bench_mounts bench_entries bench open_how
-    moved_nodes moved_mounts moved_entries moved alone_nodes alone_mounts alone_entries alone cal_rows lab_rows given cal_lines
+unfolding of-descriptors of-bench all_below all_of listed entry_agrees names_agree place_agrees agree_on join_names part_of agree
+    slots_after is_scoped script_scoped moved_nodes moved_mounts moved_entries moved alone_nodes alone_mounts alone_entries alone cal_rows lab_rows given cal_lines
 computed = record {
   moved-accepted = refl;
   alone-accepted = refl;
@@ -131,8 +113,8 @@ closed-inside t p zero = tt
 closed-inside t p (suc n) = (tt, closed-inside t p n)
 
 -- what the bench tree shares with another table: they agree, and the handle is good in both
-module _ (image : List ℕ) (p : Place) (accepted : table_check image ≡ Accepted) (agrees : agree (tree_of bench) (tree_of image) p ≡ true)
-    (good : (marked : Bool) → handle_refused (tree_of bench) (handle_at p marked) ≡ none) (good' : (marked : Bool) → handle_refused (tree_of image) (handle_at p marked) ≡ none) where
+module _ (image : List ℕ) (p : Place) (accepted : table_check image ≡ Ok tt) (agrees : agree (tree_of bench) (tree_of image) p ≡ true)
+    (good : (marked : Bool) → handle_refused (tree_of bench) (handle_at p marked) ≡ None) (good' : (marked : Bool) → handle_refused (tree_of image) (handle_at p marked) ≡ None) where
   shares : (marked : Bool) → Sharing bench image (handle_at p marked)
   shares marked = record {
     accepted = worked.bench-accepted;

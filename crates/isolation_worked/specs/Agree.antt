@@ -1,8 +1,8 @@
 -- Whether two tables have a place's part in common (RULES 20.4), as a test that can be run: a list of places is gone through, each is compared in both
 -- tables, and all that one leads to has to stand in the list. A list that lacks a place fails the test, so nothing has to be believed of how it was made.
-use Rattle.std.specs.Prelude.{ℕ, zero, suc, ◌+◌, Bool, true, false, cond, not, ◌&&◌, ◌||◌, List, [], ◌∷◌, ◌++◌, eqb}
-use mathlib.Core.Option.{Option, none, some}
-use Rattle.model.specs.Bytes.{same_bytes, is_some, first_failing}
+use Rattle.std.specs.Prelude.{ℕ, zero, suc, ◌+◌, Bool, true, false, cond, not, ◌&&◌, ◌||◌, List, [], ◌∷◌, ◌++◌, eqb, Option, None, Some}
+use Rattle.std.specs.Option.{is_some}
+use Rattle.model.specs.Bytes.{same_bytes, first_failing}
 use Rattle.model.specs.Tree.{Tree, is_directory, mount_on}
 use Rattle.model.specs.Walk.{place_at, same_place, root_of}
 use Rattle.model.specs.declared.Place.{Place}
@@ -22,10 +22,10 @@ listed [] p = false
 listed (q ∷ qs) p = same_place q p || listed qs p
 
 abbrev pub same_mount : Option ℕ → Option ℕ → Bool
-same_mount none none = true
-same_mount none (some n) = false
-same_mount (some m) none = false
-same_mount (some m) (some n) = eqb m n
+same_mount None None = true
+same_mount None (Some n) = false
+same_mount (Some m) None = false
+same_mount (Some m) (Some n) = eqb m n
 
 -- a directory's entry i, counted from its first, in both tables, and where it leads
 unfoldable pub entry_agrees : List Place → Tree → Tree → Place → ℕ → Bool
@@ -39,8 +39,8 @@ names_agree places t u p = eqb (t.count p.node) (u.count p.node) && all_below (e
 
 -- what a place leads to, by the mount on it: the mount's root, else its names
 abbrev pub leads_agree : List Place → Tree → Tree → Place → Option ℕ → Bool
-leads_agree places t u p (some m) = eqb (t.mount_root m) (u.mount_root m) && listed places (root_of t m)
-leads_agree places t u p none = cond (is_directory t p.node) (names_agree places t u p) true
+leads_agree places t u p (Some m) = eqb (t.mount_root m) (u.mount_root m) && listed places (root_of t m)
+leads_agree places t u p None = cond (is_directory t p.node) (names_agree places t u p) true
 
 unfoldable pub place_agrees : List Place → Tree → Tree → Place → Bool
 place_agrees places t u p =
@@ -58,8 +58,8 @@ join_names f zero = []
 join_names f (suc n) = join_names f n ++ f n
 
 abbrev pub leads_by : Tree → (Place → List Place) → Place → Option ℕ → List Place
-leads_by t on p (some m) = on (root_of t m)
-leads_by t on p none = cond (is_directory t p.node) (join_names (λ i. on (place_at p.mount (t.entry_node (t.first p.node + i)))) (t.count p.node)) []
+leads_by t on p (Some m) = on (root_of t m)
+leads_by t on p None = cond (is_directory t p.node) (join_names (λ i. on (place_at p.mount (t.entry_node (t.first p.node + i)))) (t.count p.node)) []
 
 unfoldable pub part_of : Tree → ℕ → Place → List Place
 part_of t zero p = p ∷ []

@@ -1,4 +1,5 @@
 -- Laws of the bits of a number. Assumes nothing.
+use Rattle.std.proofs.lemmas.Bool.{cases_lt}
 use Prim.Native.Nat.{ℕ, zero, suc, ◌+◌, ◌-◌, ◌*◌, ◌/◌, ◌%◌, ◌^◌, ◌≤◌, ◌<◌, max, min}
 use mathlib.Core.Bool.{Bool, true, false, ◌&&◌, ◌||◌, or-false}
 use mathlib.Core.Logic.{⊎_elim}
@@ -10,7 +11,6 @@ use lib.Dec.{eqb}
 use lib.Bits.{bit_and, bit_or, and_step, and_shr, or_step, or_shr, or_block, or_zero_r}
 use lib.Pow.{pow-lt, pow-add, pow_pos}
 use Rattle.model.specs.Bytes.{has}
-use Rattle.laws.proofs.Cases.{below_or}
 
 -- what holds of the digits 0 and 1 holds of any two
 pub digits : (P : ℕ → ℕ → Type 0) → P 0 0 → P 0 1 → P 1 0 → P 1 1 → (p q : ℕ) → p < 2 → q < 2 → P p q
@@ -73,7 +73,7 @@ has-pow b k =
     (λ (e : k ≡ b). ap (λ (x : ℕ). has (2 ^ b) (2 ^ x)) e ∙ has_same b ∙ sym (eq-eqb b k (sym e)))
     (λ (l : k < b). high-clear b (2 ^ k) (pow-lt l) ∙ sym (ne_eqb b k (λ z. omega arith)))
     (eq-or-lt_of_le h))
-    (below_or b k)
+    (cases_lt b k)
 
 -- "or" with a byte goes into the lowest byte
 pub or-low : (r b y : ℕ) → b < 256 → y < 256 → bit_or (b + 256 * r) y ≡ bit_or b y + 256 * r

@@ -1,16 +1,16 @@
 -- Laws of the readings and searches of specs/Bytes.antt. Assumes nothing.
+use Rattle.std.specs.Prelude.{Option, None, Some}
 use Prim.Native.Nat.{ℕ, zero, suc, ◌+◌, ◌-◌, ◌*◌, ◌/◌, ◌%◌, ◌^◌, ◌≤◌, ◌<◌}
-use mathlib.Core.Bool.{Bool, true, false, cond, not, true≢false}
+use mathlib.Core.Bool.{Bool, true, false, cond, not}
 use mathlib.Core.List.{List, ◌∷◌, ◌++◌}
-use mathlib.Core.Option.{Option, none, some}
 use mathlib.Core.Path.{◌≡◌, refl, sym, ap, ap₂, ◌∙◌}
 use native.Mathlib.Omega.{arith}
 use native.Mathlib.Nat.{eq-or-lt_of_le, zero-add, add-zero, suc-add, pow-suc}
 use mathlib.Core.Logic.{◌⊎◌, inl, inr, ⊎_elim}
 use borrow.Author.Tests.{not-false}
 use lib.ListN.{length, get_or, get_or-eq_default}
-use Rattle.model.specs.Bytes.{field, field_bytes, find, first_failing, or_else, is_some}
-use Rattle.laws.proofs.Cases.{some-not-none}
+use Rattle.std.specs.Option.{is_some}
+use Rattle.model.specs.Bytes.{field, field_bytes, find, first_failing, or_else}
 
 -- a field is the same where its bytes are
 pub field-ext : (width : ℕ) (s t : List ℕ) (at : ℕ) → ((i : ℕ) → at ≤ i → i < at + width → get_or s i 0 ≡ get_or t i 0)
@@ -71,12 +71,17 @@ field-bytes (suc width) x s h =
     let rest : field width (field_bytes width (x / 256) ++ s) 0 ≡ x / 256 = field-bytes width (x / 256) s (omega arith) in
     rw (field-cons width (x % 256) (field_bytes width (x / 256) ++ s) 0, rest) (omega arith)
 
-find-none-by : (b : Bool) (at : ℕ) (later : Option ℕ) → cond b (some at) later ≡ none → (b ≡ false) × (later ≡ none)
-find-none-by true at later e = absurd (some-not-none at e)
+find-none-by : (b : Bool) (at : ℕ) (later : Option ℕ) → cond b (Some at) later ≡ None → (b ≡ false) × (later ≡ None)
+find-none-by true at later e = cc
 find-none-by false at later e = (refl, e)
 
+-- a chain of options with nothing in it has nothing in either part
+pub or_else-none : {A : Type 0} (a b : Option A) → or_else a b ≡ None → (a ≡ None) × (b ≡ None)
+or_else-none None b e = (refl, e)
+or_else-none (Some x) b e = cc
+
 -- a search that finds nothing has passed over every number
-pub find_none : (p : ℕ → Bool) (at count : ℕ) → find p at count ≡ none → (i : ℕ) → at ≤ i → i < at + count → p i ≡ false
+pub find_none : (p : ℕ → Bool) (at count : ℕ) → find p at count ≡ None → (i : ℕ) → at ≤ i → i < at + count → p i ≡ false
 unfolding find
 find_none p at zero e i l u = absurd (omega arith)
 find_none p at (suc count) e i l u =
@@ -90,14 +95,14 @@ pub record Lowest (p : ℕ → Bool) (at count k : ℕ) : Type 0 where
   pub passes : p k ≡ true
   pub lowest : (i : ℕ) → at ≤ i → i < k → p i ≡ false
 
-find-some-by : (b : Bool) (at k : ℕ) (later : Option ℕ) → cond b (some at) later ≡ some k
-    → ((b ≡ true) × (at ≡ k)) ⊎ ((b ≡ false) × (later ≡ some k))
+find-some-by : (b : Bool) (at k : ℕ) (later : Option ℕ) → cond b (Some at) later ≡ Some k
+    → ((b ≡ true) × (at ≡ k)) ⊎ ((b ≡ false) × (later ≡ Some k))
 find-some-by true at k later e = inl (refl, cc)
 find-some-by false at k later e = inr (refl, e)
 
-pub find-some : (p : ℕ → Bool) (at count k : ℕ) → find p at count ≡ some k → Lowest p at count k
+pub find-some : (p : ℕ → Bool) (at count k : ℕ) → find p at count ≡ Some k → Lowest p at count k
 unfolding find
-find-some p at zero k e = absurd (some-not-none k (sym e))
+find-some p at zero k e = cc
 find-some p at (suc count) k e =
     ⊎_elim
     (λ (here : (p at ≡ true) × (at ≡ k)). record {
@@ -106,7 +111,7 @@ find-some p at (suc count) k e =
       passes = ap p (sym here.1) ∙ here.0;
       lowest = λ i l u. absurd (omega arith);
     })
-    (λ (there : (p at ≡ false) × (find p (suc at) count ≡ some k)).
+    (λ (there : (p at ≡ false) × (find p (suc at) count ≡ Some k)).
     let r = find-some p (suc at) count k there.1 in
     record {
       from = omega (arith, r.from);
@@ -116,26 +121,26 @@ find-some p at (suc count) k e =
     })
     (find-some-by (p at) at k (find p (suc at) count) e)
 
-pub first_failing-none : (p : ℕ → Bool) (count : ℕ) → first_failing p count ≡ none → (i : ℕ) → i < count → p i ≡ true
+pub first_failing-none : (p : ℕ → Bool) (count : ℕ) → first_failing p count ≡ None → (i : ℕ) → i < count → p i ≡ true
 unfolding first_failing
 first_failing-none p count e i h = not-false (p i) (find_none (λ n. not (p n)) 0 count e i (omega arith) (omega arith))
 
 -- a search from `at` up to `end`, one number at a time
 module _ (p : ℕ → Bool) (at end : ℕ) where
-  find-step : at < end → find p at (end - at) ≡ cond (p at) (some at) (find p (at + 1) (end - (at + 1)))
+  find-step : at < end → find p at (end - at) ≡ cond (p at) (Some at) (find p (at + 1) (end - (at + 1)))
   unfolding find
   find-step h =
       let e : end - at ≡ suc (end - (at + 1)) = omega arith in
       let f : suc at ≡ at + 1 = omega arith in
       rw (e, f)
 
-  pub find-here : at < end → p at ≡ true → find p at (end - at) ≡ some at
+  pub find-here : at < end → p at ≡ true → find p at (end - at) ≡ Some at
   find-here h e = find-step h ∙ rw e
 
   pub find-on : at < end → p at ≡ false → find p at (end - at) ≡ find p (at + 1) (end - (at + 1))
   find-on h e = find-step h ∙ rw e
 
-  pub find-done : end ≤ at → find p at (end - at) ≡ none
+  pub find-done : end ≤ at → find p at (end - at) ≡ None
   unfolding find
   find-done h = let e : end - at ≡ 0 = omega arith in rw e
 
@@ -144,13 +149,13 @@ pub record Finds (p : ℕ → Bool) (end : ℕ) (first : Option ℕ) (k : ℕ) :
   pub from-here : first ≡ find p k (end - k)
 
 module _ {p : ℕ → Bool} {end : ℕ} {first : Option ℕ} {k : ℕ} (loop : Finds p end first k) where
-  pub finds-here : k < end → p k ≡ true → some k ≡ first
+  pub finds-here : k < end → p k ≡ true → Some k ≡ first
   finds-here h e = sym (loop.from-here ∙ find-here p k end h e)
 
   pub finds-on : k < end → p k ≡ false → Finds p end first (k + 1)
   finds-on h e = record { from-here = loop.from-here ∙ find-on p k end h e }
 
-  pub finds-none : end ≤ k → none ≡ first
+  pub finds-none : end ≤ k → None ≡ first
   finds-none h = sym (loop.from-here ∙ find-done p k end h)
 
 -- a search over two ranges, one after the other
@@ -161,7 +166,7 @@ find-append p at (suc low) high =
     let e : at + suc low ≡ suc at + low = omega arith in
     rw (suc-add low high, e, find-append p (suc at) low high) (by (p at))
   where
-    by : (b : Bool) → cond b (some at) (or_else (find p (suc at) low) (find p (suc at + low) high)) ≡ or_else (cond b (some at) (find p (suc at) low)) (find p (suc at + low) high)
+    by : (b : Bool) → cond b (Some at) (or_else (find p (suc at) low) (find p (suc at + low) high)) ≡ or_else (cond b (Some at) (find p (suc at) low)) (find p (suc at + low) high)
     by true = refl
     by false = refl
 
@@ -184,16 +189,16 @@ pub find-exists : (p : ℕ → Bool) (at count k : ℕ) → at ≤ k → k < at 
 find-exists p at count k l u e = by (find p at count) refl
   where
     by : (o : Option ℕ) → find p at count ≡ o → is_some o ≡ true
-    by (some i) f = refl
-    by none f = absurd (true≢false (sym e ∙ find_none p at count f k l u))
+    by (Some i) f = refl
+    by None f = cc (find_none p at count f k l u)
 
 -- and where none passes it finds nothing
-pub find_absent : (p : ℕ → Bool) (at count : ℕ) → ((i : ℕ) → at ≤ i → i < at + count → p i ≡ false) → find p at count ≡ none
+pub find_absent : (p : ℕ → Bool) (at count : ℕ) → ((i : ℕ) → at ≤ i → i < at + count → p i ≡ false) → find p at count ≡ None
 find_absent p at count h = by (find p at count) refl
   where
-    by : (o : Option ℕ) → find p at count ≡ o → find p at count ≡ none
-    by none f = f
-    by (some k) f = let l = find-some p at count k f in absurd (true≢false (sym l.passes ∙ h k l.from l.below))
+    by : (o : Option ℕ) → find p at count ≡ o → find p at count ≡ None
+    by None f = f
+    by (Some k) f = let l = find-some p at count k f in cc (l.passes, h k l.from l.below)
 
 -- so a search may begin after numbers that do not pass
 pub find-later : (p : ℕ → Bool) (at from end : ℕ) → at ≤ from → from ≤ end → ((i : ℕ) → at ≤ i → i < from → p i ≡ false)
@@ -201,7 +206,7 @@ pub find-later : (p : ℕ → Bool) (at from end : ℕ) → at ≤ from → from
 find-later p at from end l u none_before =
     let whole : end - at ≡ from - at + (end - from) = omega arith in
     let there : at + (from - at) ≡ from = omega arith in
-    let low : find p at (from - at) ≡ none = find_absent p at (from - at) (λ i k h. none_before i k (omega arith)) in
+    let low : find p at (from - at) ≡ None = find_absent p at (from - at) (λ i k h. none_before i k (omega arith)) in
     ap (find p at) whole ∙ find-append p at (from - at) (end - from) ∙ ap₂ or_else low (ap (λ (k : ℕ). find p k (end - from)) there)
 
 -- two tests that agree in the range find alike

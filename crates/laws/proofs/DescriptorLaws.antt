@@ -1,9 +1,10 @@
 -- Slots of the descriptor table: one among the 64, one that is stored, the lowest that is free, and a call by cases. Assumes nothing.
+use Rattle.std.specs.Prelude.{Option, None, Some}
+use Rattle.std.proofs.lemmas.Bool.{cases_lt}
 use Prim.Native.Nat.{ℕ, ◌≤◌, ◌<◌}
-use mathlib.Core.Bool.{Bool, true, false, cond, true≢false, false≢true}
+use mathlib.Core.Bool.{Bool, true, false, cond}
 use mathlib.Core.List.{List}
 use mathlib.Core.Logic.{◌⊎◌, inl, inr}
-use mathlib.Core.Option.{Option, none, some}
 use mathlib.Core.Path.{◌≡◌, refl, sym, ap, ◌∙◌}
 use native.Mathlib.Omega.{arith}
 use borrow.Author.Tests.{lt-ltb, le-ltb}
@@ -22,14 +23,14 @@ use Rattle.model.specs.declared.Reached.{Reached}
 use Rattle.model.specs.declared.Refusal.{Refusal}
 use Rattle.model.specs.declared.Reply.TheVariants.{Opened, Duplicated, Done}
 use Rattle.laws.proofs.ByteLaws.{find-some, find_absent}
-use Rattle.laws.proofs.Cases.{cond_cases, below_or}
+use Rattle.laws.proofs.Cases.{cond_cases}
 
 pub holding-not : {h : Handle} → holding h ≡ closed → ⊥
-holding-not e = let z : ◌≡◌ {A = ℕ} 0 1 = cc in omega arith
+holding-not e = cc
 
 pub closed_is : (s : Slot) → is_closed s ≡ true → s ≡ closed
 closed_is closed e = refl
-closed_is (holding h) e = absurd (false≢true e)
+closed_is (holding h) e = cc
 
 pub open_is : (s : Slot) → (s ≡ closed → ⊥) → is_closed s ≡ false
 open_is closed is_open = absurd (is_open refl)
@@ -46,7 +47,7 @@ module _ (slots : List Slot) (d : ℕ) where
 
   -- a number that is open is one of the 64
   pub open-below : (slot_at slots d ≡ closed → ⊥) → d < 64
-  open-below is_open = by (below_or d 64)
+  open-below is_open = by (cases_lt d 64)
     where
       by : (d < 64) ⊎ (64 ≤ d) → d < 64
       by (inl h) = h
@@ -58,7 +59,7 @@ module _ (slots : List Slot) (d : ℕ) where
 
   module _ {h : Handle} (held : slot_at slots d ≡ holding h) where
     held-not : slot_at slots d ≡ closed → ⊥
-    held-not e = holding-not (sym held ∙ e)
+    held-not e = cc
 
     held-get : get_or slots d closed ≡ holding h
     held-get = sym (slot-below (open-below held-not)) ∙ held
@@ -68,11 +69,11 @@ module _ (slots : List Slot) (d : ℕ) where
     slot-again = ap (set slots d) (sym held-get) ∙ set-get_or slots d closed
 
     held-inside : d < length slots
-    held-inside = by (below_or d (length slots))
+    held-inside = by (cases_lt d (length slots))
       where
         by : (d < length slots) ⊎ (length slots ≤ d) → d < length slots
         by (inl l) = l
-        by (inr l) = absurd (holding-not (sym held-get ∙ get_or-eq_default slots closed l))
+        by (inr l) = cc (held-get, get_or-eq_default slots closed l)
 
     pub slot_same : (s : Slot) → slot_at (set slots d s) d ≡ s
     unfolding slot_at
@@ -83,7 +84,7 @@ module _ (slots : List Slot) where
   abbrev free : ℕ → Bool
   free d = is_closed (get_or slots d closed)
 
-  module _ (n : ℕ) (is : lowest_free slots ≡ some n) where
+  module _ (n : ℕ) (is : lowest_free slots ≡ Some n) where
     pub lowest-below : n < 64
     unfolding lowest_free
     lowest-below = omega (arith, (find-some free 0 64 n is).below)
@@ -98,9 +99,9 @@ module _ (slots : List Slot) where
     lowest-first e h shut =
         let none-lower = (find-some free 0 64 n is).lowest e (omega arith) h in
         let e-below : e < 64 = omega (arith, lowest-below) in
-        true≢false (sym (ap is_closed (sym (slot-below slots e e-below) ∙ shut)) ∙ none-lower)
+        cc (slot-below slots e e-below)
 
-  pub none_free : ((e : ℕ) → e < 64 → slot_at slots e ≡ closed → ⊥) → lowest_free slots ≡ none
+  pub none_free : ((e : ℕ) → e < 64 → slot_at slots e ≡ closed → ⊥) → lowest_free slots ≡ None
   unfolding lowest_free
   none_free all =
       find_absent free 0 64
@@ -110,9 +111,9 @@ module _ (slots : List Slot) where
 module _ (image : List ℕ) (slots : List Slot) (call : DescriptorCall) (P : Served → Type 0)
     (denies : (r : Refusal) → P (refusing slots r))
     (opens : (d : ℕ) (marked : Bool) (path how : List ℕ) → call ≡ open_path d marked path how → (h : Handle) → slot_at slots d ≡ holding h
-    → (r : Reached) → resolve image (call_of h path how) ≡ Found r → (n : ℕ) → lowest_free slots ≡ some n
+    → (r : Reached) → resolve image (call_of h path how) ≡ Found r → (n : ℕ) → lowest_free slots ≡ Some n
     → P (record { reply = Opened (record { number = n; reached = r }); slots = set slots n (holding (handle_at r.place marked)) }))
-    (duplicates : (d : ℕ) → call ≡ duplicate d → (h : Handle) → slot_at slots d ≡ holding h → (n : ℕ) → lowest_free slots ≡ some n
+    (duplicates : (d : ℕ) → call ≡ duplicate d → (h : Handle) → slot_at slots d ≡ holding h → (n : ℕ) → lowest_free slots ≡ Some n
     → P (record { reply = Duplicated n; slots = set slots n (holding h) }))
     (closes : (d : ℕ) → call ≡ close d → (h : Handle) → slot_at slots d ≡ holding h → P (record { reply = Done; slots = set slots d closed }))
     (marks : (d : ℕ) → call ≡ set_mark d → (h : Handle) → slot_at slots d ≡ holding h → is_directory (tree_of image) h.node ≡ true
@@ -130,15 +131,15 @@ module _ (image : List ℕ) (slots : List Slot) (call : DescriptorCall) (P : Ser
   answered d marked path how is h held (Found r) told = by (lowest_free slots) refl
     where
       by : (o : Option ℕ) → lowest_free slots ≡ o → P (giving slots o (handle_at r.place marked) (λ n. Opened (record { number = n; reached = r })))
-      by none e = denies _
-      by (some n) e = opens d marked path how is h held r told n e
+      by None e = denies _
+      by (Some n) e = opens d marked path how is h held r told n e
 
   duplicated : (d : ℕ) → call ≡ duplicate d → (h : Handle) → slot_at slots d ≡ holding h → P (duplicate_of slots h)
   duplicated d is h held = by (lowest_free slots) refl
     where
       by : (o : Option ℕ) → lowest_free slots ≡ o → P (giving slots o h Duplicated)
-      by none e = denies _
-      by (some n) e = duplicates d is h held n e
+      by None e = denies _
+      by (Some n) e = duplicates d is h held n e
 
   pub serve-cases : P (serve image slots call)
   unfolding serve

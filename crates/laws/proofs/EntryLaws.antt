@@ -1,4 +1,5 @@
 -- Laws of entries and the directories that hold them: over directories that keep rule 4 each entry is in one directory. Assumes nothing.
+use Rattle.std.proofs.lemmas.Bool.{and_parts, cases_lt}
 use Prim.Native.Nat.{ℕ, suc, ◌+◌, ◌-◌, ◌≤◌, ◌<◌}
 use mathlib.Core.Bool.{Bool, true, false, ◌&&◌, and-false}
 use mathlib.Core.Logic.{⊎_elim}
@@ -7,20 +8,20 @@ use native.Mathlib.Nat.{eq-or-lt_of_le}
 use native.Mathlib.Omega.{arith}
 use borrow.Author.Tests.{ltb-true, leb-true, lt-ltb, le-leb, eqb-true, eqb-false, eq-eqb, ne_eqb}
 use lib.Dec.{eqb, ltb}
-use Rattle.model.specs.Bytes.{before, find, is_some}
+use Rattle.std.specs.Option.{is_some}
+use Rattle.model.specs.Bytes.{before, find}
 use Rattle.model.specs.Tree.{Tree, is_directory, holds}
 use Rattle.model.specs.TableCheck.{follows, ascends, stands_in_parent}
 use Rattle.laws.specs.Held.{Held}
 use Rattle.laws.specs.Acceptance.{DirectoriesHold}
 use Rattle.laws.proofs.Acceptance.{directory-below, directory-kind, first-sum, counts-grow, counts-next}
 use Rattle.laws.proofs.ByteLaws.{find-exists, find_absent}
-use Rattle.laws.proofs.Cases.{both, below_or}
 
 pub holds-held : (t : Tree) (n e : ℕ) → holds t n e ≡ true → Held t n e
 unfolding holds
 holds-held t n e h =
-    let a = both _ _ h in
-    let b = both _ _ a.0 in
+    let a = and_parts _ _ h in
+    let b = and_parts _ _ a.0 in
     record { directory = b.0; from = leb-true _ _ b.1; below = ltb-true _ _ a.1 }
 
 pub held-holds : {t : Tree} {n e : ℕ} → Held t n e → holds t n e ≡ true
@@ -46,7 +47,7 @@ module _ (t : Tree) (directories : DirectoriesHold t) where
       ⊎_elim
       (λ (l : d < n). absurd (let a = apart d n hd.directory hn.directory l in omega (arith, hd.below, hn.from)))
       (λ (g : n ≤ d). ⊎_elim (λ (q : n ≡ d). sym q) (λ (l : n < d). absurd (let a = apart n d hn.directory hd.directory l in omega (arith, hn.below, hd.from))) (eq-or-lt_of_le g))
-      (below_or d n)
+      (cases_lt d n)
 
   -- the directory that holds an entry is told by its number
   pub owner-test : (d n e : ℕ) → Held t n e → holds t d e ≡ eqb d n

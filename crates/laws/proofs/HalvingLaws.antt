@@ -1,10 +1,10 @@
 -- Laws of the search by halving: one turn of it, that it finds what a search name by name finds where names ascend, and that it compares no more
 -- names than their number has binary digits. Assumes nothing.
+use Rattle.std.specs.Prelude.{Option, None, Some}
 use Prim.Native.Nat.{ℕ, zero, suc, ◌+◌, ◌-◌, ◌/◌, ◌≤◌, ◌<◌}
-use mathlib.Core.Bool.{Bool, true, false, cond, true≢false}
+use mathlib.Core.Bool.{Bool, true, false, cond}
 use mathlib.Core.List.{List}
 use mathlib.Core.Logic.{⊎_elim}
-use mathlib.Core.Option.{Option, none, some}
 use mathlib.Core.Path.{◌≡◌, refl, sym, ap, ap₂, ◌∙◌}
 use native.Mathlib.Nat.{eq-or-lt_of_le}
 use native.Mathlib.Omega.{arith}
@@ -38,7 +38,7 @@ module _ (name : ℕ → List ℕ) (wanted : List ℕ) where
   -- what a turn leads to: `low` names stand before the middle, `high` after it
   abbrev after_turn : ℕ → ℕ → ℕ → Halved
   after_turn from low high =
-      cond (same_bytes (name (from + low)) wanted) (ended (some (from + low)))
+      cond (same_bytes (name (from + low)) wanted) (ended (Some (from + low)))
       (cond (before wanted (name (from + low))) (halve_within low name wanted from low) (halve_within high name wanted (from + low + 1) high))
 
   one-turn : (from others : ℕ) → halve_within (suc others) name wanted from (suc others) ≡ after 1 (after_turn from (others / 2) (others - others / 2))
@@ -77,7 +77,7 @@ module _ {name : ℕ → List ℕ} {wanted : List ℕ} {whole : Halved} {from le
 
   module _ {low : ℕ} (h : 0 < left) (e : low ≡ (left - 1) / 2) where
     -- the middle name is equal
-    pub halves-found : same_bytes (name (from + low)) wanted ≡ true → record { entry = some (from + low); compared = compared + 1 } ≡ whole
+    pub halves-found : same_bytes (name (from + low)) wanted ≡ true → record { entry = Some (from + low); compared = compared + 1 } ≡ whole
     halves-found s = let z : compared + 1 + 0 ≡ compared + 1 = omega arith in sym (turn low h e ∙ rw (s, z))
 
     -- the side before it can hold the name
@@ -89,7 +89,7 @@ module _ {name : ℕ → List ℕ} {wanted : List ℕ} {whole : Halved} {from le
         → Halves name wanted whole (from + low + 1) (left - 1 - low) (compared + 1)
     halves-later s b = record { from-here = turn low h e ∙ rw (s, b) }
 
-  pub halves-none : left ≡ 0 → record { entry = none; compared = compared } ≡ whole
+  pub halves-none : left ≡ 0 → record { entry = None; compared = compared } ≡ whole
   unfolding halve_within
   halves-none e =
       let z : compared + 0 ≡ compared = omega arith in
@@ -99,9 +99,9 @@ module _ {name : ℕ → List ℕ} {wanted : List ℕ} {whole : Halved} {from le
 abbrev pub Ascending : (ℕ → List ℕ) → ℕ → ℕ → Type 0
 Ascending name from count = (i j : ℕ) → from ≤ i → i < j → j < from + count → before (name i) (name j) ≡ true
 
-or-none : (o : Option ℕ) → or_else o none ≡ o
-or-none none = refl
-or-none (some k) = refl
+or-none : (o : Option ℕ) → or_else o None ≡ o
+or-none None = refl
+or-none (Some k) = refl
 
 module _ (name : ℕ → List ℕ) (wanted : List ℕ) where
   abbrev named : ℕ → Bool
@@ -115,7 +115,7 @@ module _ (name : ℕ → List ℕ) (wanted : List ℕ) where
         by : (o : Bool) → named i ≡ o → o ≡ false
         by false e = refl
         by true e =
-            absurd (true≢false (sym (ap (λ (s : List ℕ). before s (name m)) (sym (same-equal (name i) wanted e)) ∙ ascending i m li lm u) ∙ b))
+            cc (same-equal (name i) wanted e, ascending i m li lm u)
 
     none_above : before wanted (name m) ≡ true → (i : ℕ) → m ≤ i → i < from + count → named i ≡ false
     none_above b i lm ui =
@@ -124,7 +124,7 @@ module _ (name : ℕ → List ℕ) (wanted : List ℕ) where
         (λ (q : m < i). same-around (name i) wanted ∙ before-other wanted (name i) (before-next-but-one wanted (name m) (name i) b (ascending m i l q ui)))
         (eq-or-lt_of_le lm)
 
-    found-middle : named m ≡ true → find named from count ≡ some m
+    found-middle : named m ≡ true → find named from count ≡ Some m
     found-middle e =
         let other : before wanted (name m) ≡ false = ap (λ (s : List ℕ). before s (name m)) (sym (same-equal (name m) wanted e)) ∙ before_self (name m) in
         let whole : count ≡ from + count - from = omega arith in
@@ -161,7 +161,7 @@ module _ (name : ℕ → List ℕ) (wanted : List ℕ) where
       by : (s b : Bool) → named m ≡ s → before wanted (name m) ≡ b
           → (halve_within turns name wanted from (others / 2)).entry ≡ find named from (others / 2)
           → (halve_within turns name wanted (m + 1) (others - others / 2)).entry ≡ find named (m + 1) (others - others / 2)
-          → (cond s (ended (some m)) (cond b (halve_within turns name wanted from (others / 2)) (halve_within turns name wanted (m + 1) (others - others / 2)))).entry
+          → (cond s (ended (Some m)) (cond b (halve_within turns name wanted from (others / 2)) (halve_within turns name wanted (m + 1) (others - others / 2)))).entry
           ≡ find named from (suc others)
       by true b e f low high = sym (found-middle from (suc others) m up (omega arith) (omega arith) e)
       by false true e f low high =
@@ -201,7 +201,7 @@ module _ (name : ℕ → List ℕ) (wanted : List ℕ) where
       by : (s b : Bool)
           → (halve_within turns name wanted from (others / 2)).compared ≤ digits_within digits (others / 2)
           → (halve_within turns name wanted (m + 1) (others - others / 2)).compared ≤ digits_within digits (others - others / 2)
-          → 1 + (cond s (ended (some m)) (cond b (halve_within turns name wanted from (others / 2)) (halve_within turns name wanted (m + 1) (others - others / 2)))).compared
+          → 1 + (cond s (ended (Some m)) (cond b (halve_within turns name wanted from (others / 2)) (halve_within turns name wanted (m + 1) (others - others / 2)))).compared
           ≤ 1 + digits_within digits (suc others / 2)
       by true b low high = omega arith
       by false true low high = omega (arith, digits-grow digits digits (others / 2) (suc others / 2) (omega arith) (omega arith) (omega arith))

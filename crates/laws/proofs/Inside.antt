@@ -1,8 +1,9 @@
 -- Over a sound tree every place that a walk comes to is a mount and a node of the tree. Assumes nothing.
+use Rattle.std.specs.Prelude.{Option, None, Some}
+use Rattle.std.proofs.lemmas.Bool.{and_parts}
 use Prim.Native.Nat.{ℕ, ◌<◌}
 use mathlib.Core.Bool.{Bool, true, false, not, ◌&&◌, ◌||◌}
 use mathlib.Core.List.{List}
-use mathlib.Core.Option.{Option, none, some}
 use mathlib.Core.Path.{◌≡◌, refl}
 use lib.Dec.{eqb, ltb}
 use lib.ListN.{length}
@@ -17,7 +18,7 @@ use Rattle.model.specs.declared.Place.{Place}
 use Rattle.laws.specs.Acceptance.{Sound}
 use Rattle.laws.specs.Inside.{Inside}
 use Rattle.laws.proofs.Acceptance.{directory-below, parent-directory, lookup-inside, entry-facts, root-directory, point-directory, mount-parent-below, mount-on-below, target-inside}
-use Rattle.laws.proofs.Cases.{both, first_of, cond_cases}
+use Rattle.laws.proofs.Cases.{first_of, cond_cases}
 
 module _ (t : Tree) (sound : Sound t) where
   pub root_inside : (m : ℕ) → m < t.mounts → Inside t (root_of t m)
@@ -25,8 +26,8 @@ module _ (t : Tree) (sound : Sound t) where
   root_inside m h = record { mount_below = h; node_below = directory-below t sound.nodes_hold.directories_hold (t.mount_root m) (root-directory t sound.mounts_hold m h) }
 
   enter-by-inside : (p : Place) (o : Option ℕ) → mount_on t p ≡ o → Inside t p → Inside t (enter_by t p o).place
-  enter-by-inside p none e h = h
-  enter-by-inside p (some m) e h = root_inside m (mount-on-below t p m e).1
+  enter-by-inside p None e h = h
+  enter-by-inside p (Some m) e h = root_inside m (mount-on-below t p m e).1
 
   pub enter-inside : {p : Place} → Inside t p → Inside t (enter t p).place
   unfolding enter
@@ -91,12 +92,12 @@ module _ (a : Request) (sound : Sound a.tree) (root : Inside a.tree a.root) (las
   unfolding step_to
   step-to-inside n h =
       cond_cases (StepInside a.tree) (is_link a.tree n && (not last || a.follow_last)) _ _
-      (λ e. follow-link-inside n h (both (is_link a.tree n) _ e).0)
+      (λ e. follow-link-inside n h (and_parts (is_link a.tree n) _ e).0)
       (λ _. enter-inside a.tree sound (record { mount_below = inside.mount_below; node_below = h }))
 
   step-by-inside : (name : List ℕ) (o : Option ℕ) → lookup a.tree p.node name ≡ o → StepInside a.tree (step_by a last p o)
-  step-by-inside name none e = tt
-  step-by-inside name (some i) e =
+  step-by-inside name None e = tt
+  step-by-inside name (Some i) e =
       step-to-inside (a.tree.entry_node i) (entry-facts a.tree sound i (lookup-inside a.tree sound.nodes_hold.directories_hold p.node name i d e)).1
 
   by_name-inside : (name : List ℕ) → StepInside a.tree (by_name a last p name)

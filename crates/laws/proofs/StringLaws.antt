@@ -1,20 +1,19 @@
 -- Laws of byte strings, one byte at a time from a position on. Assumes nothing.
+use Rattle.std.proofs.lemmas.Bool.{and_parts}
+use Rattle.std.proofs.lemmas.List.{drop_more}
 use Prim.Native.Nat.{ℕ, suc, ◌+◌, ◌-◌, ◌*◌, ◌^◌, ◌≤◌, ◌<◌}
-use mathlib.Core.Bool.{Bool, true, false, ◌&&◌, ◌||◌, or-true, or-false, and-false, false≢true}
+use mathlib.Core.Bool.{Bool, true, false, ◌&&◌, ◌||◌, or-true, or-false, and-false}
 use mathlib.Core.List.{List, [], ◌∷◌}
 use mathlib.Core.Path.{◌≡◌, refl, sym, ap, ap₂, ◌∙◌}
 use native.Mathlib.Omega.{arith}
-use native.Mathlib.Numerals.{add-one}
 use borrow.Author.Tests.{eq-eqb, ne_eqb, eqb-true, le-ltb, ltb-true, ltb-false}
 use lib.Dec.{eqb, ltb}
 use lib.ListN.{length, get_or, take, drop, drop_of_length-le}
-use lib.Seq.{drop-cons}
 use Rattle.model.specs.Bytes.{part, contains, same_bytes, before}
-use Rattle.laws.proofs.Cases.{both}
 
 -- a list from a position on, by the byte there
 pub next : (s : List ℕ) (i : ℕ) → i < length s → drop i s ≡ get_or s i 0 ∷ drop (i + 1) s
-next s i h = rw (add-one, drop-cons s i 0)
+next s i = drop_more s i 0
 
 pub contains-next : (b : ℕ) (s : List ℕ) (i : ℕ) → i < length s → contains b (drop i s) ≡ eqb (get_or s i 0) b || contains b (drop (i + 1) s)
 unfolding contains
@@ -54,10 +53,10 @@ differing (x ∷ s) (y ∷ t) h = rw (differing s t (λ e. h (ap suc e))) (and-f
 pub same-equal : (s t : List ℕ) → same_bytes s t ≡ true → s ≡ t
 unfolding same_bytes
 same-equal [] [] e = refl
-same-equal [] (y ∷ t) e = absurd (false≢true e)
-same-equal (x ∷ s) [] e = absurd (false≢true e)
+same-equal [] (y ∷ t) e = cc
+same-equal (x ∷ s) [] e = cc
 same-equal (x ∷ s) (y ∷ t) e =
-    let b = both (eqb x y) (same_bytes s t) e in
+    let b = and_parts (eqb x y) (same_bytes s t) e in
     ap₂ ◌∷◌ (eqb-true x y b.0) (same-equal s t b.1)
 
 pub equal-same : (s : List ℕ) → same_bytes s s ≡ true

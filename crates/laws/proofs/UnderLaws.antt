@@ -1,7 +1,7 @@
 -- Laws of following parents: over directories that keep rule 4 the chain falls, so that every number of steps at least as high as the node
 -- gives the same answer. Assumes nothing.
 use Prim.Native.Nat.{ℕ, zero, suc, ◌≤◌, ◌<◌}
-use mathlib.Core.Bool.{Bool, true, false, ◌||◌}
+use mathlib.Core.Bool.{Bool, true, false, ◌||◌, or_self}
 use mathlib.Core.Logic.{⊎_elim}
 use mathlib.Core.Path.{◌≡◌, refl, sym, ap, ◌∙◌}
 use native.Mathlib.Nat.{eq-or-lt_of_le}
@@ -11,10 +11,6 @@ use lib.Dec.{eqb}
 use Rattle.model.specs.Tree.{Tree, is_directory, meets_within, under}
 use Rattle.laws.specs.Acceptance.{DirectoriesHold}
 use Rattle.laws.proofs.Acceptance.{directory-below, parent-directory, parent-le}
-
-or_self : (b : Bool) → (b || b) ≡ b
-or_self true = refl
-or_self false = refl
 
 -- at the top of a tree only the node itself is met
 top-meets : (t : Tree) (k n r : ℕ) → t.parent n ≡ n → meets_within k t.parent n r ≡ eqb n r

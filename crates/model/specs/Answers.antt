@@ -1,14 +1,12 @@
 -- "What the resolver says back" (RULES 5), and the numbers of each answer.
-use Rattle.std.specs.Prelude.{ℕ, Bool, true, false, List, [], ◌∷◌}
-use mathlib.Core.Option.{Option, some}
+use Rattle.std.specs.Prelude.{ℕ, Bool, true, false, List, [], ◌∷◌, Option, Some, Result, Ok, Err}
 use Rattle.model.specs.declared.Progress.{Progress}
 use Rattle.model.specs.declared.Refusal.{Refusal}
 use Rattle.model.specs.declared.Errno.{Errno}
 use Rattle.model.specs.declared.Errno.TheVariants.{Euclean, E2big, Einval, Enametoolong, Enoent, Ebadf, Enotdir, Eloop, Exdev, Emfile, Enotty, Erange}
 use Rattle.model.specs.declared.Answer.{Answer}
 use Rattle.model.specs.declared.Answer.TheVariants.{Found, Refused}
-use Rattle.model.specs.declared.Verdict.{Verdict}
-use Rattle.model.specs.declared.Verdict.TheVariants.{Accepted, Broken}
+use Rattle.model.specs.declared.Broken.{Broken}
 
 -- the table of error numbers (RULES 5.7), the descriptor table's two (RULES 17.8) and the builder's (RULES 19.8)
 abbrev pub errno_number : Errno → ℕ
@@ -32,9 +30,9 @@ answer_numbers (Found r) = 0 ∷ 255 ∷ r.place.mount ∷ r.place.node ∷ r.pr
 answer_numbers (Refused r) = errno_number r.errno ∷ r.detail ∷ 0 ∷ 0 ∷ r.progress.components ∷ r.progress.links ∷ []
 
 -- A verdict's numbers: rule (0: accepted) and record (RULES 4.12).
-abbrev pub verdict_numbers : Verdict → List ℕ
-verdict_numbers Accepted = 0 ∷ 0 ∷ []
-verdict_numbers (Broken rule record') = rule ∷ record' ∷ []
+abbrev pub verdict_numbers : Result Unit Broken → List ℕ
+verdict_numbers (Ok u) = 0 ∷ 0 ∷ []
+verdict_numbers (Err b) = b.rule ∷ b.record ∷ []
 
 -- "Found carries the place, components taken and links followed." (RULES 5.3)
 abbrev pub progress_of : Answer → Progress
@@ -53,7 +51,7 @@ refused e p = Refused (refusal e p)
 
 -- One check before the walk, and those after it: the first that refuses gives the refusal (RULES 7.1).
 abbrev pub refuse_if : Bool → Errno → Option Refusal → Option Refusal
-refuse_if true e later = some (refusal e not_walked)
+refuse_if true e later = Some (refusal e not_walked)
 refuse_if false e later = later
 
 -- the refusal of an unknown bit: its number is the detail (RULES 6.5, 6.6)

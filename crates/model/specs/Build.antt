@@ -1,14 +1,13 @@
 -- Writing an image (RULES 19): the tree that four lent parts stand for, the image as it would be written, and what the builder answers.
-use Rattle.std.specs.Prelude.{ℕ, ◌+◌, ◌*◌, ◌/◌, Bool, cond, ◌&&◌, List, [], ◌∷◌, ◌++◌, eqb, leb, length}
+use Rattle.std.specs.Prelude.{ℕ, ◌+◌, ◌*◌, ◌/◌, Bool, cond, ◌&&◌, List, [], ◌∷◌, ◌++◌, eqb, leb, length, Result, Ok, Err}
 use Rattle.model.specs.Bytes.{fields_bytes, join_below, over, ascii}
 use Rattle.model.specs.Tree.{Sizes, Tree, tree_of_parts}
 use Rattle.model.specs.Answers.{errno_number}
 use Rattle.model.specs.TableCheck.{unless, length_fits, counts_fit, whole_length, sum_below, breaks, records_check}
 use Rattle.model.specs.declared.Errno.TheVariants.{Euclean, Erange}
-use Rattle.model.specs.declared.Verdict.{Verdict}
-use Rattle.model.specs.declared.Verdict.TheVariants.{Accepted, Broken}
-use Rattle.model.specs.declared.Built.{Built}
-use Rattle.model.specs.declared.Built.TheVariants.{Written, Broken as Built-broken, Short}
+use Rattle.model.specs.declared.Broken.{Broken}
+use Rattle.model.specs.declared.Unbuilt.{Unbuilt}
+use Rattle.model.specs.declared.Unbuilt.TheVariants.{Breaks, Short}
 
 -- "document 01's node, mount and entry records, with text offsets into the caller's text, in lent buffers" (RULES 19.1)
 pub record Parts : Type 0 where
@@ -84,31 +83,30 @@ image_of t =
 
 -- "The rules are taken on the image as it would be written; a link body or name reaching outside the caller's text breaks rule 4 or 5 at that
 -- record." (RULES 19.6, 19.7)
-unfoldable pub parts_check : Parts → Verdict
+unfoldable pub parts_check : Parts → Result Unit Broken
 parts_check p =
     breaks 1 (unless (length_fits (written_length (tree_in p))) 0)
     (breaks 3 (unless (counts_fit (written_sizes (tree_in p)) && records_whole p) 0)
     (records_check (tree_in p)))
 
 -- "A tree that breaks a rule of document 01 is refused with that rule and record, a buffer too small with ERANGE (34) after that" (RULES 19.8)
-abbrev pub built_by : Verdict → ℕ → ℕ → Built
-built_by Accepted bytes room = cond (leb bytes room) (Written bytes) (Short bytes)
-built_by (Broken rule r) bytes room = Built-broken rule r
+abbrev pub built_by : Result Unit Broken → ℕ → ℕ → Result ℕ Unbuilt
+built_by (Ok u) bytes room = cond (leb bytes room) (Ok bytes) (Err (Short bytes))
+built_by (Err b) bytes room = Err (Breaks b)
 
-unfoldable pub built : Parts → ℕ → Built
+unfoldable pub built : Parts → ℕ → Result ℕ Unbuilt
 built p room = built_by (parts_check p) (written_length (tree_in p)) room
 
 -- "a refusal leaves the output buffer as it was, and bytes beyond an image are not touched" (RULES 19.9)
-abbrev pub buffer_by : Built → List ℕ → List ℕ → List ℕ
-buffer_by (Written bytes) buffer image = over buffer 0 image
-buffer_by (Built-broken rule r) buffer image = buffer
-buffer_by (Short bytes) buffer image = buffer
+abbrev pub buffer_by : Result ℕ Unbuilt → List ℕ → List ℕ → List ℕ
+buffer_by (Ok bytes) buffer image = over buffer 0 image
+buffer_by (Err u) buffer image = buffer
 
 unfoldable pub buffer_after : Parts → List ℕ → List ℕ
 buffer_after p buffer = buffer_by (built p (length buffer)) buffer (image_of (tree_in p))
 
 -- What building comes to, as numbers (RULES 19.10): error number (0: written), rule, record, the image's length. What an answer does not tell is 0.
-abbrev pub built_numbers : Built → List ℕ
-built_numbers (Written bytes) = 0 ∷ 0 ∷ 0 ∷ bytes ∷ []
-built_numbers (Built-broken rule r) = errno_number Euclean ∷ rule ∷ r ∷ 0 ∷ []
-built_numbers (Short bytes) = errno_number Erange ∷ 0 ∷ 0 ∷ bytes ∷ []
+abbrev pub built_numbers : Result ℕ Unbuilt → List ℕ
+built_numbers (Ok bytes) = 0 ∷ 0 ∷ 0 ∷ bytes ∷ []
+built_numbers (Err (Breaks b)) = errno_number Euclean ∷ b.rule ∷ b.record ∷ 0 ∷ []
+built_numbers (Err (Short bytes)) = errno_number Erange ∷ 0 ∷ 0 ∷ bytes ∷ []

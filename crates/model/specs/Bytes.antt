@@ -1,9 +1,8 @@
 -- Numbers and parts read off byte strings, and searches by number. A byte string is a list of numbers; a byte past its end
 -- reads as 0, so every reading is total.
-use Rattle.std.specs.Prelude.{ℕ, zero, suc, ◌+◌, ◌*◌, ◌/◌, ◌%◌, Bool, true, false, cond, not, ◌&&◌, ◌||◌, List, [], ◌∷◌, ◌++◌, eqb, ltb, length, get_or, take, drop}
+use Rattle.std.specs.Prelude.{ℕ, zero, suc, ◌+◌, ◌*◌, ◌/◌, ◌%◌, Bool, true, false, cond, not, ◌&&◌, ◌||◌, List, [], ◌∷◌, ◌++◌, eqb, ltb, length, get_or, take, drop, Option, None, Some}
 use Prim.Native.Char.{code}
 use Prim.Native.String.{String, [] as empty, ◌∷◌ as ◌then◌}
-use mathlib.Core.Option.{Option, none, some}
 
 -- "Little-endian (house)" (RULES 2.1): the number that the width bytes at a position stand for, for every width
 unfoldable pub field : ℕ → List ℕ → ℕ → ℕ
@@ -56,28 +55,24 @@ before (x ∷ s) (y ∷ t) = ltb x y || (eqb x y && before s t)
 
 -- the lowest of the count numbers from `at` on that passes the test
 unfoldable pub find : (ℕ → Bool) → ℕ → ℕ → Option ℕ
-find test at zero = none
+find test at zero = None
 find test at (suc count) =
     let later = find test (suc at) count in
-    cond (test at) (some at) later
+    cond (test at) (Some at) later
 
 -- the lowest number below count that fails the test
 unfoldable pub first_failing : (ℕ → Bool) → ℕ → Option ℕ
 first_failing test count = find (λ n. not (test n)) 0 count
 
-abbrev pub is_some {ℓ} : {A : Type ℓ} → Option A → Bool
-is_some none = false
-is_some (some a) = true
-
 -- the first of two answers that is there
-abbrev pub or_else {ℓ} : {A : Type ℓ} → Option A → Option A → Option A
-or_else none later = later
-or_else (some a) later = some a
+abbrev pub or_else : {A : Type 0} → Option A → Option A → Option A
+or_else None later = later
+or_else (Some a) later = Some a
 
 -- a list, where there is no answer before it
-abbrev pub if_none {ℓ} : {A B : Type ℓ} → Option A → List B → List B
-if_none none later = later
-if_none (some a) later = []
+abbrev pub if_none : {A B : Type 0} → Option A → List B → List B
+if_none None later = later
+if_none (Some a) later = []
 
 -- the bytes of a text in ASCII
 unfoldable pub ascii : String → List ℕ

@@ -1,6 +1,5 @@
 -- Descriptors (RULES 17): the numbers that a script holds in place of handles, as a plain list of 64 slots.
-use Rattle.std.specs.Prelude.{ℕ, Bool, true, false, cond, not, ◌&&◌, List, [], ◌∷◌, ltb, leb, length, get_or, set, replicate}
-use mathlib.Core.Option.{Option, none, some}
+use Rattle.std.specs.Prelude.{ℕ, Bool, true, false, cond, not, ◌&&◌, List, [], ◌∷◌, ltb, leb, length, get_or, set, replicate, Option, None, Some, Result, Ok, Err}
 use Rattle.model.specs.Bytes.{has, find}
 use Rattle.model.specs.Tree.{tree_of, is_directory}
 use Rattle.model.specs.Answers.{errno_number, refusal, not_walked}
@@ -16,8 +15,7 @@ use Rattle.model.specs.declared.Errno.{Errno}
 use Rattle.model.specs.declared.Errno.TheVariants.{Einval, Ebadf, Emfile, Enotty}
 use Rattle.model.specs.declared.Answer.{Answer}
 use Rattle.model.specs.declared.Answer.TheVariants.{Found, Refused as Answer-refused}
-use Rattle.model.specs.declared.Verdict.{Verdict}
-use Rattle.model.specs.declared.Verdict.TheVariants.{Accepted, Broken}
+use Rattle.model.specs.declared.Broken.{Broken}
 use Rattle.model.specs.declared.Reply.{Reply}
 use Rattle.model.specs.declared.Reply.TheVariants.{Opened, Duplicated, Done, Refused}
 
@@ -36,9 +34,9 @@ abbrev pub handle_at : Place → Bool → Handle
 handle_at p marked = record { mount = p.mount; node = p.node; mark = marked }
 
 -- "Only descriptor 0 starts open, unmarked, on mount 0's root (none, if the table is refused)." (RULES 17.2)
-abbrev pub start_on : Verdict → Place → List Slot
-start_on Accepted root = holding (handle_at root false) ∷ replicate 63 closed
-start_on (Broken rule r) root = replicate 64 closed
+abbrev pub start_on : Result Unit Broken → Place → List Slot
+start_on (Ok u) root = holding (handle_at root false) ∷ replicate 63 closed
+start_on (Err b) root = replicate 64 closed
 
 unfoldable pub start : List ℕ → List Slot
 start image = start_on (table_check image) (root_of (tree_of image) 0)
@@ -76,8 +74,8 @@ if_open slots (holding h) next = next h
 -- "last EMFILE (24), for opening or duplicating exactly when nothing before it applies and all 64 are open" (RULES 17.5), else the handle
 -- stands in the number given
 abbrev pub giving : List Slot → Option ℕ → Handle → (ℕ → Reply) → Served
-giving slots none h reply = denying slots Emfile
-giving slots (some d) h reply = record { reply = reply d; slots = set slots d (holding h) }
+giving slots None h reply = denying slots Emfile
+giving slots (Some d) h reply = record { reply = reply d; slots = set slots d (holding h) }
 
 -- "asking for it without O_DIRECTORY is EINVAL" (RULES 17.7), of an open_how that has its 24 bytes
 unfoldable pub asked_in_vain : Bool → List ℕ → Bool

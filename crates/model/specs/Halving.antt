@@ -1,6 +1,5 @@
 -- The search by halving (RULES 18): a name among the sorted names of a directory, with how many names were compared.
-use Rattle.std.specs.Prelude.{ℕ, zero, suc, ◌+◌, ◌-◌, ◌/◌, cond, List}
-use mathlib.Core.Option.{Option, none, some}
+use Rattle.std.specs.Prelude.{ℕ, zero, suc, ◌+◌, ◌-◌, ◌/◌, cond, List, Option, None, Some}
 use Rattle.model.specs.Bytes.{same_bytes, before}
 use Rattle.model.specs.Tree.{Tree}
 
@@ -20,13 +19,13 @@ after names h = record { entry = h.entry; compared = names + h.compared }
 -- "compare the middle of the names left (of two, the earlier), stop if it is equal, else keep the side that can hold the name" (RULES 18.2):
 -- `left` names are left, from entry `from` on. No search takes more turns than there are names.
 unfoldable pub halve_within : ℕ → (ℕ → List ℕ) → List ℕ → ℕ → ℕ → Halved
-halve_within zero name wanted from left = ended none
-halve_within (suc turns) name wanted from zero = ended none
+halve_within zero name wanted from left = ended None
+halve_within (suc turns) name wanted from zero = ended None
 halve_within (suc turns) name wanted from (suc others) =
     let middle = from + others / 2 in
     let earlier = halve_within turns name wanted from (others / 2) in
     let later = halve_within turns name wanted (middle + 1) (others - others / 2) in
-    after 1 (cond (same_bytes (name middle) wanted) (ended (some middle)) (cond (before wanted (name middle)) earlier later))
+    after 1 (cond (same_bytes (name middle) wanted) (ended (Some middle)) (cond (before wanted (name middle)) earlier later))
 
 -- the search for a name in a directory (RULES 18.1)
 unfoldable pub halving : Tree → ℕ → List ℕ → Halved

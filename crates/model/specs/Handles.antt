@@ -1,6 +1,5 @@
 -- The handle check (RULES 7.4).
-use Rattle.std.specs.Prelude.{not, ◌&&◌, ◌||◌, ltb}
-use mathlib.Core.Option.{Option, none}
+use Rattle.std.specs.Prelude.{not, ◌&&◌, ◌||◌, ltb, Option, None}
 use Rattle.model.specs.Tree.{Tree, is_directory, under, covered}
 use Rattle.model.specs.Answers.{refuse_if}
 use Rattle.model.specs.declared.Place.{Place}
@@ -17,4 +16,4 @@ unfoldable pub handle_refused : Tree → Handle → Option Refusal
 handle_refused t h =
     refuse_if (not (ltb h.mount t.mounts && ltb h.node t.nodes)) Ebadf
     (refuse_if (not (is_directory t h.node)) Enotdir
-    (refuse_if (not (under t h.node (t.mount_root h.mount)) || covered t (place_of h)) Ebadf none))
+    (refuse_if (not (under t h.node (t.mount_root h.mount)) || covered t (place_of h)) Ebadf None))

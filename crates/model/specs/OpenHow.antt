@@ -1,7 +1,7 @@
 -- The open_how check (RULES 6): "open_how: u64 flags, u16 mode, 6 padding bytes, u64 resolve." (RULES 6.1)
-use Rattle.std.specs.Prelude.{ℕ, ◌+◌, ◌-◌, ◌^◌, Bool, not, ◌&&◌, ◌||◌, List, eqb, ltb, length, get_or}
-use mathlib.Core.Option.{Option, none, some}
-use Rattle.model.specs.Bytes.{field, has, find, is_some, or_else}
+use Rattle.std.specs.Prelude.{ℕ, ◌+◌, ◌-◌, ◌^◌, Bool, not, ◌&&◌, ◌||◌, List, eqb, ltb, length, get_or, Option, None, Some}
+use Rattle.std.specs.Option.{is_some}
+use Rattle.model.specs.Bytes.{field, has, find, or_else}
 use Rattle.model.specs.Answers.{refuse_if, unknown}
 use Rattle.model.specs.declared.Refusal.{Refusal}
 use Rattle.model.specs.declared.Errno.TheVariants.{Einval, E2big}
@@ -59,8 +59,8 @@ unknown_bit known x = find (λ b. has (2 ^ b) x && not (has (2 ^ b) known)) 0 64
 
 -- "detail b for flags bit b, 64 + b for resolve bit b" (RULES 6.5, 6.6)
 abbrev pub refuse_unknown : ℕ → Option ℕ → Option Refusal
-refuse_unknown base none = none
-refuse_unknown base (some b) = some (unknown (base + b))
+refuse_unknown base None = None
+refuse_unknown base (Some b) = Some (unknown (base + b))
 
 -- "flags, resolve" (RULES 6.10): an unknown bit of either
 abbrev pub flags_refused : ℕ → Option Refusal
@@ -78,18 +78,18 @@ unfoldable pub length_refused : List ℕ → Option Refusal
 length_refused how =
     refuse_if (ltb (length how) 24) Einval
     (refuse_if (ltb 4096 (length how)) E2big
-    (refuse_if (tail_set how) E2big none))
+    (refuse_if (tail_set how) E2big None))
 
 -- "both BENEATH and IN_ROOT" (RULES 6.7)
 abbrev pub scopes_refused : ℕ → Option Refusal
-scopes_refused resolve = refuse_if (has BENEATH resolve && has IN_ROOT resolve) Einval none
+scopes_refused resolve = refuse_if (has BENEATH resolve && has IN_ROOT resolve) Einval None
 
 -- "mode or padding not zero" (RULES 6.8)
 unfoldable pub mode_set : List ℕ → Bool
 mode_set how = not (eqb (mode_of how) 0) || not (eqb (padding_of how) 0)
 
 abbrev pub mode_refused : List ℕ → Option Refusal
-mode_refused how = refuse_if (mode_set how) Einval none
+mode_refused how = refuse_if (mode_set how) Einval None
 
 -- "Order: .. open_how length (too short, too long, tail), flags, resolve, both scopes, mode, .." (RULES 6.10)
 unfoldable pub how_refused : List ℕ → Option Refusal

@@ -1,6 +1,5 @@
 -- Texts, that is the given path and the bodies of symbolic links (RULES 8): their components, and the checks of the given path (RULES 7.3).
-use Rattle.std.specs.Prelude.{ℕ, ◌+◌, Bool, true, false, cond, not, ◌&&◌, List, [], ◌∷◌, eqb, ltb, length}
-use mathlib.Core.Option.{Option, none}
+use Rattle.std.specs.Prelude.{ℕ, ◌+◌, Bool, true, false, cond, not, ◌&&◌, List, [], ◌∷◌, eqb, ltb, length, Option, None}
 use Rattle.model.specs.Bytes.{contains}
 use Rattle.model.specs.Answers.{refuse_if}
 use Rattle.model.specs.declared.Refusal.{Refusal}
@@ -58,4 +57,4 @@ unfoldable pub path_refused : List ℕ → Option Refusal
 path_refused path =
     refuse_if (ltb 4095 (length path)) Enametoolong
     (refuse_if (eqb (length path) 0) Enoent
-    (refuse_if (contains 0 path) Einval none))
+    (refuse_if (contains 0 path) Einval None))

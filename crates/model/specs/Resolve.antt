@@ -1,6 +1,5 @@
 -- The resolver's answer, for any bytes at all.
-use Rattle.std.specs.Prelude.{ℕ, Bool, cond, not, ◌&&◌, ◌||◌, List}
-use mathlib.Core.Option.{Option, none, some}
+use Rattle.std.specs.Prelude.{ℕ, Bool, cond, not, ◌&&◌, ◌||◌, List, Option, None, Some, Result, Ok, Err}
 use Rattle.model.specs.Bytes.{has, or_else, if_none}
 use Rattle.model.specs.Tree.{tree_of}
 use Rattle.model.specs.Answers.{refusal, not_walked}
@@ -16,8 +15,7 @@ use Rattle.model.specs.declared.Refusal.{Refusal}
 use Rattle.model.specs.declared.Errno.TheVariants.{Euclean}
 use Rattle.model.specs.declared.Answer.{Answer}
 use Rattle.model.specs.declared.Answer.TheVariants.{Refused}
-use Rattle.model.specs.declared.Verdict.{Verdict}
-use Rattle.model.specs.declared.Verdict.TheVariants.{Accepted, Broken}
+use Rattle.model.specs.declared.Broken.{Broken}
 
 -- A call over an image: a directory handle, the bytes of the path and those of the open_how (RULES 5.1).
 pub record Call : Type 0 where
@@ -29,9 +27,9 @@ abbrev pub call_of : Handle → List ℕ → List ℕ → Call
 call_of h path how = record { handle = h; path = path; how = how }
 
 -- "117 EUCLEAN (house): the table check fails" (RULES 5.7, 7.1)
-abbrev pub refused_table : Verdict → Option Refusal
-refused_table Accepted = none
-refused_table (Broken rule r) = some (refusal Euclean not_walked)
+abbrev pub refused_table : Result Unit Broken → Option Refusal
+refused_table (Ok u) = None
+refused_table (Err b) = Some (refusal Euclean not_walked)
 
 -- "with an absolute path, no IN_ROOT and no mark, the handle isn't checked" (RULES 7.5): a path, the bits of resolve and a mark, and so a call
 abbrev pub unchecked_by : List ℕ → ℕ → Bool → Bool
@@ -42,7 +40,7 @@ handle_unchecked call = unchecked_by call.path (resolve_of call.how) call.handle
 
 -- "A marked handle is still checked first": the check, where it is made (RULES 7.4)
 abbrev pub refused_by_handle : List ℕ → Call → Option Refusal
-refused_by_handle image call = cond (handle_unchecked call) none (handle_refused (tree_of image) call.handle)
+refused_by_handle image call = cond (handle_unchecked call) None (handle_refused (tree_of image) call.handle)
 
 -- "Order: table, open_how length .., flags, resolve, both scopes, mode, path too long, path empty, zero byte, handle, walk." (RULES 7.1)
 unfoldable pub refused_after_table : List ℕ → Call → Option Refusal
@@ -84,8 +82,8 @@ trace_of image call =
     walk_path (request_of image call) (has O_DIRECTORY (flags_of call.how) || ends_in_slash call.path) call.path
 
 abbrev pub unless_refused : Option Refusal → Answer → Answer
-unless_refused none a = a
-unless_refused (some r) a = Refused r
+unless_refused None a = a
+unless_refused (Some r) a = Refused r
 
 -- What the resolver answers: the refusal before the walk, else the walk's answer under the restrictions set (RULES 12.2).
 unfoldable pub resolve : List ℕ → Call → Answer

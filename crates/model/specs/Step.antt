@@ -1,6 +1,5 @@
 -- One step of a walk under restrictions. The walk's answer is that of its steps, one after the other.
-use Rattle.std.specs.Prelude.{ℕ, ◌-◌, List, [], ◌∷◌}
-use mathlib.Core.Option.{Option, none, some}
+use Rattle.std.specs.Prelude.{ℕ, ◌-◌, List, [], ◌∷◌, Option, None, Some}
 use Rattle.model.specs.Answers.{refused}
 use Rattle.model.specs.Path.{Component}
 use Rattle.model.specs.Trace.{Restrictions, forbid_any, answer}
@@ -32,8 +31,8 @@ next_by links pending (went s) = on_with links pending s
 next_by links pending (followed cs s) = on_with (links - 1) cs s
 
 abbrev pub failed_by : Option Errno → State → Onward → Onward
-failed_by none s next = next
-failed_by (some e) s next = failed e s
+failed_by None s next = next
+failed_by (Some e) s next = failed e s
 
 -- "tried left to right over all restrictions set" (RULES 10.4): a transition under them fails at the first of its events that they forbid
 abbrev pub restricted : Restrictions → ℕ → List Component → Transition → Onward

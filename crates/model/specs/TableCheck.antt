@@ -1,16 +1,15 @@
 -- The table check (RULES 4): "accepted", or the lowest rule broken and the lowest record number breaking it. Each rule gives the lowest
 -- record that breaks it, if there is one. "Sums are plain whole numbers and never wrap" (RULES 4.11): numbers here have no bound.
-use Rattle.std.specs.Prelude.{ℕ, zero, suc, ◌+◌, ◌-◌, ◌*◌, Bool, true, false, cond, not, ◌&&◌, List, eqb, ltb, leb, length, take}
-use mathlib.Core.Option.{Option, none, some}
-use Rattle.model.specs.Bytes.{field, contains, same_bytes, before, find, first_failing, is_some, or_else, ascii}
+use Rattle.std.specs.Prelude.{ℕ, zero, suc, ◌+◌, ◌-◌, ◌*◌, Bool, true, false, cond, not, ◌&&◌, List, eqb, ltb, leb, length, take, Option, None, Some, Result, Ok, Err}
+use Rattle.std.specs.Option.{is_some}
+use Rattle.model.specs.Bytes.{field, contains, same_bytes, before, find, first_failing, or_else, ascii}
 use Rattle.model.specs.Tree.{Tree, Sizes, sizes_of, tree_of, by_kind, is_directory, holds, under}
-use Rattle.model.specs.declared.Verdict.{Verdict}
-use Rattle.model.specs.declared.Verdict.TheVariants.{Accepted, Broken}
+use Rattle.model.specs.declared.Broken.{Broken}
 
 -- the record that breaks a rule where its test fails
 abbrev pub unless : Bool → ℕ → Option ℕ
-unless true r = none
-unless false r = some r
+unless true r = None
+unless false r = Some r
 
 -- "1. Image length 20 to 65,536." (RULES 4.1)
 abbrev pub length_fits : ℕ → Bool
@@ -139,15 +138,19 @@ magic_target_holds t n = cond (eqb (t.kind n) 4) (target_holds t n) true
 unfoldable pub rule7 : Tree → Option ℕ
 rule7 t = first_failing (magic_target_holds t) t.nodes
 
+-- a rule broken, by a record
+abbrev pub broken : ℕ → ℕ → Result Unit Broken
+broken rule r = Err (record { rule = rule; «record» = r })
+
 -- a rule's answer, and that of the rules after it
-abbrev pub breaks : ℕ → Option ℕ → Verdict → Verdict
-breaks rule none later = later
-breaks rule (some r) later = Broken rule r
+abbrev pub breaks : ℕ → Option ℕ → Result Unit Broken → Result Unit Broken
+breaks rule None later = later
+breaks rule (Some r) later = broken rule r
 
 -- rules 4 to 7, on the tree
-unfoldable pub records_check : Tree → Verdict
-records_check t = breaks 4 (rule4 t) (breaks 5 (rule5 t) (breaks 6 (rule6 t) (breaks 7 (rule7 t) Accepted)))
+unfoldable pub records_check : Tree → Result Unit Broken
+records_check t = breaks 4 (rule4 t) (breaks 5 (rule5 t) (breaks 6 (rule6 t) (breaks 7 (rule7 t) (Ok tt))))
 
 -- "The table check answers "accepted", or the lowest rule broken and the lowest record number breaking it (0 for rules 1 to 3)." (RULES 4.8, 4.9)
-unfoldable pub table_check : List ℕ → Verdict
+unfoldable pub table_check : List ℕ → Result Unit Broken
 table_check s = breaks 1 (rule1 s) (breaks 2 (rule2 s) (breaks 3 (rule3 s) (records_check (tree_of s))))

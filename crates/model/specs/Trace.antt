@@ -1,7 +1,6 @@
 -- A walk's trace: what happens on it, with no restriction applied. Restrictions only read the trace, so all that demand 3
 -- (RULES 12.3) compares is one trace read under two sets of restrictions.
-use Rattle.std.specs.Prelude.{Bool, true, false, cond, List, [], ◌∷◌, ◌++◌}
-use mathlib.Core.Option.{Option, none, some}
+use Rattle.std.specs.Prelude.{Bool, true, false, cond, List, [], ◌∷◌, ◌++◌, Option, None, Some}
 use Rattle.model.specs.Answers.{refused}
 use Rattle.model.specs.Bytes.{or_else, if_none}
 use Rattle.model.specs.declared.Place.{Place}
@@ -55,8 +54,8 @@ row (Jump elsewhere) = (mark, Enoent) ∷ (beneath, Exdev) ∷ given elsewhere (
 
 -- "tried left to right over all restrictions set" (RULES 10.4): the error of the first entry whose restriction is set
 unfoldable pub first_set : Restrictions → List Entry → Option Errno
-first_set R [] = none
-first_set R (x ∷ xs) = cond (R x.0) (some x.1) (first_set R xs)
+first_set R [] = None
+first_set R (x ∷ xs) = cond (R x.0) (Some x.1) (first_set R xs)
 
 -- the error that an event gives under a set of restrictions, if they forbid it (RULES 10.8)
 unfoldable pub forbids : Restrictions → Event → Option Errno
@@ -64,12 +63,12 @@ forbids R e = first_set R (row e)
 
 -- the error of the first event of a list that the restrictions forbid
 unfoldable pub forbid_any : Restrictions → List Event → Option Errno
-forbid_any R [] = none
+forbid_any R [] = None
 forbid_any R (e ∷ es) = or_else (forbids R e) (forbid_any R es)
 
 abbrev pub refused_by : Option Errno → Progress → Answer → Answer
-refused_by none p later = later
-refused_by (some e) p later = refused e p
+refused_by None p later = later
+refused_by (Some e) p later = refused e p
 
 -- A trace's answer under a set of restrictions: the refusal of the first event that they forbid, "detail 255, and all else that
 -- a refusal carries is as it stands at the event" (RULES 10.4), else the answer that the trace ends with.

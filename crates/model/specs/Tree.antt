@@ -1,8 +1,8 @@
 -- "The table image" (RULES 2): an image is a header and four parts, and stands for a tree. The rules and the walk speak of a tree alone, so that
 -- where its fields stand in the bytes is said here and nowhere else.
-use Rattle.std.specs.Prelude.{ℕ, zero, suc, ◌+◌, ◌-◌, ◌*◌, Bool, cond, ◌&&◌, ◌||◌, List, eqb, ltb, leb}
-use mathlib.Core.Option.{Option}
-use Rattle.model.specs.Bytes.{field, part, find, same_bytes, is_some}
+use Rattle.std.specs.Prelude.{ℕ, zero, suc, ◌+◌, ◌-◌, ◌*◌, Bool, cond, ◌&&◌, ◌||◌, List, eqb, ltb, leb, Option}
+use Rattle.std.specs.Option.{is_some}
+use Rattle.model.specs.Bytes.{field, part, find, same_bytes}
 use Rattle.model.specs.declared.Place.{Place}
 
 -- The header's counts N, M, E and text length T (RULES 2.3).

@@ -1,6 +1,5 @@
 -- "The walk" (RULES 9): its trace, one component at a time.
-use Rattle.std.specs.Prelude.{ℕ, zero, suc, ◌+◌, Bool, true, false, cond, not, ◌&&◌, ◌||◌, List, [], ◌∷◌, ◌++◌, eqb, ltb, length}
-use mathlib.Core.Option.{Option, none, some}
+use Rattle.std.specs.Prelude.{ℕ, zero, suc, ◌+◌, Bool, true, false, cond, not, ◌&&◌, ◌||◌, List, [], ◌∷◌, ◌++◌, eqb, ltb, length, Option, None, Some}
 use Rattle.model.specs.Bytes.{same_bytes, ascii}
 use Rattle.model.specs.Tree.{Tree, is_directory, is_link, lookup, mount_on}
 use Rattle.model.specs.Answers.{refused, not_walked}
@@ -52,8 +51,8 @@ after_if false e m = m
 
 -- "Step or parent covered in the current mount: event Cross, enter that mount's root." (RULES 9.8e, 9.11)
 abbrev pub enter_by : Tree → Place → Option ℕ → Move
-enter_by t p none = stay_at p
-enter_by t p (some m) = after Cross (stay_at (root_of t m))
+enter_by t p None = stay_at p
+enter_by t p (Some m) = after Cross (stay_at (root_of t m))
 
 unfoldable pub enter : Tree → Place → Move
 enter t p = enter_by t p (mount_on t p)
@@ -120,8 +119,8 @@ step_to a last p n =
 
 -- "absent, ENOENT; else step to it" (RULES 9.9, 9.11)
 abbrev pub step_by : Request → Bool → Place → Option ℕ → Step
-step_by a last p none = fail Enoent
-step_by a last p (some e) = step_to a last p (a.tree.entry_node e)
+step_by a last p None = fail Enoent
+step_by a last p (Some e) = step_to a last p (a.tree.entry_node e)
 
 -- "A name: over 255, ENAMETOOLONG" (RULES 9.9)
 unfoldable pub by_name : Request → Bool → Place → List ℕ → Step

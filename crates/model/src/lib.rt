@@ -15,7 +15,7 @@ pub const MOST_LINKS: usize = 40;
 pub const NO_DETAIL: u32 = 255;
 
 // A place (RULES 3.5): a node as it is seen through one mount.
-#[derive(Clone, Copy)]
+#[derive(Clone, Copy, PartialEq, Eq)]
 pub struct Place {
     pub mount: usize,
     pub node: usize,
@@ -29,12 +29,32 @@ pub struct Handle {
     pub mark: bool,
 }
 
+impl From<Handle> for Place {
+    ghost use Rattle.std.specs.Prelude.{◌≡◌};
+    ghost use Rattle.model.specs.Handles.{place_of};
+
+    ghost from_gives = { λ h p. p ≡ place_of h };
+
+    fn from(h: Handle) -> Place {
+        Place {
+            mount: h.mount,
+            node: h.node,
+        }
+    }
+}
+
 // How far a walk came: components taken and links followed (RULES 11.2).
 #[derive(Clone, Copy)]
 pub struct Progress {
     pub components: usize,
     pub links: usize,
 }
+
+// Before the walk both counts are 0 (RULES 5.4).
+pub const NOT_WALKED: Progress = Progress {
+    components: 0,
+    links: 0,
+};
 
 // A walk's state: where it stands, how far it came, and whether it must end on a directory (RULES 9.1).
 #[derive(Clone, Copy)]
@@ -51,22 +71,21 @@ pub struct Reached {
     pub progress: Progress,
 }
 
-// The error numbers that the resolver and the descriptor table give, by their usual names (RULES 5.7, 17.8). Answers.antt in specs/ has each
-// one's number.
+// The error numbers that the resolver and the descriptor table give, by their usual names (RULES 5.7, 17.8).
 #[derive(Clone, Copy)]
 pub enum Errno {
-    Euclean,
-    E2big,
-    Einval,
-    Enametoolong,
-    Enoent,
-    Ebadf,
-    Enotdir,
-    Eloop,
-    Exdev,
-    Emfile,
-    Enotty,
-    Erange,
+    Euclean = 117,
+    E2big = 7,
+    Einval = 22,
+    Enametoolong = 36,
+    Enoent = 2,
+    Ebadf = 9,
+    Enotdir = 20,
+    Eloop = 40,
+    Exdev = 18,
+    Emfile = 24,
+    Enotty = 25,
+    Erange = 34,
 }
 
 // What a refusal carries (RULES 5.4): detail is an unknown bit's number, else NO_DETAIL.
@@ -77,18 +96,19 @@ pub struct Refusal {
     pub progress: Progress,
 }
 
-// The resolver's answer.
+// The resolver's answer. No `Result`: the rules name its two cases, and what each holds (DECISIONS, Forms).
 #[derive(Clone, Copy)]
 pub enum Answer {
     Found(Reached),
     Refused(Refusal),
 }
 
-// The table check's answer: accepted, or the lowest rule broken with the lowest record that breaks it (RULES 4.8).
+// Why the table check does not accept: the lowest rule broken, with the lowest record that breaks it (RULES 4.8). A rule is told by the number that
+// the rules and the C interface give it.
 #[derive(Clone, Copy)]
-pub enum Verdict {
-    Accepted,
-    Broken { rule: usize, record: usize },
+pub struct Broken {
+    pub rule: usize,
+    pub record: usize,
 }
 
 // A descriptor that was opened: its number, and what was reached (RULES 17.6).
@@ -99,6 +119,7 @@ pub struct Descriptor {
 }
 
 // What a descriptor call comes to (RULES 17.3): a path opened, a number duplicated, a close or a mark done, or a refusal.
+// No `Result`: the refusal is one of the four cases that the rules list.
 #[derive(Clone, Copy)]
 pub enum Reply {
     Opened(Descriptor),
@@ -122,18 +143,20 @@ pub struct Miss {
     pub compared: usize,
 }
 
-// What looking a name up in one directory comes to (RULES 18.5).
+// Why an image is not written (RULES 19.10): a rule that it would break, or a buffer too short for it, with the length that it needs.
 #[derive(Clone, Copy)]
-pub enum Lookup {
-    Named(Entry),
-    Unnamed(Miss),
+pub enum Unbuilt {
+    Breaks(Broken),
+    Short(usize),
 }
 
-// What writing an image comes to (RULES 19.10): written, with its length; the lowest rule that it would break, with the lowest record that breaks
-// it; or a buffer too short for it, with the length that it needs.
-#[derive(Clone, Copy)]
-pub enum Built {
-    Written(usize),
-    Broken { rule: usize, record: usize },
-    Short(usize),
+impl From<Broken> for Unbuilt {
+    ghost use Rattle.std.specs.Prelude.{◌≡◌};
+    ghost use Rattle.model.specs.declared.Unbuilt.TheVariants.{Breaks};
+
+    ghost from_gives = { λ b u. u ≡ Breaks b };
+
+    fn from(b: Broken) -> Unbuilt {
+        Unbuilt::Breaks(b)
+    }
 }

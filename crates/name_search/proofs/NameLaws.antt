@@ -1,12 +1,13 @@
 -- What a name has in common with a directory's names, and the order in which it stands among them. Assumes nothing.
-use Prim.Native.Nat.{ℕ, zero, suc, ◌+◌, ◌-◌, ◌≤◌, ◌<◌}
+use Rattle.std.specs.Prelude.{Ok}
+use Prim.Native.Nat.{ℕ, zero, suc, ◌+◌, ◌-◌, min, ◌≤◌, ◌<◌}
 use mathlib.Core.Bool.{Bool, true, false, cond}
 use mathlib.Core.List.{List, [], ◌∷◌}
 use mathlib.Core.Logic.{⊎_elim}
 use mathlib.Core.Path.{◌≡◌, refl, sym, ap, ap₂, ◌∙◌, subst}
 use native.Mathlib.Nat.{eq-or-lt_of_le}
 use native.Mathlib.Omega.{arith}
-use borrow.Author.Tests.{ltb-true, ltb-false, lt-ltb, le-ltb}
+use borrow.Author.Tests.{lt-ltb, le-ltb}
 use lib.Dec.{ltb}
 use lib.ListN.{length, get_or, take, drop, length-take, length-drop}
 use lib.Seq.{take_all}
@@ -15,21 +16,18 @@ use mir.Val.{Fits}
 use Rattle.model.specs.Bytes.{part, before, same_bytes}
 use Rattle.model.specs.Tree.{Tree, tree_of, sizes_of, text_part, is_directory}
 use Rattle.model.specs.TableCheck.{table_check}
-use Rattle.model.specs.declared.Verdict.TheVariants.{Accepted}
-use Rattle.laws.specs.Acceptance.{Sized, Sound}
-use Rattle.laws.proofs.Acceptance.{accepted-sized, accepted-below, accepted-sound, entries-inside, name-facts}
+use Rattle.laws.specs.Acceptance.{Sound}
+use Rattle.laws.proofs.Acceptance.{accepted-sized, accepted-sound, entries-inside, name-facts}
 use Rattle.laws.proofs.BeforeLaws.{before_self, before-one-way, same-around, begins-between}
 use Rattle.laws.proofs.Cases.{below_or, cond_cases}
 use Rattle.laws.proofs.HalvingLaws.{names-ascend}
 use Rattle.laws.proofs.PartLaws.{part-get}
-use Rattle.parts.specs.declared.records.Counts.{Counts}
-use Rattle.image.specs.Counts.{Counted}
 use Rattle.byte_blocks.specs.Blocks.{SameTo}
 use Rattle.byte_blocks.proofs.BlockLaws.{Bytes}
 use Rattle.string_order.specs.Orders.{ordered}
 use Rattle.string_order.specs.Starts.{alike_blocks}
-use Rattle.string_order.specs.declared.Order.{Order}
-use Rattle.string_order.specs.declared.Order.TheVariants.{Before, Same, After}
+use Rattle.std.specs.declared.cmp.Ordering.{Ordering}
+use Rattle.std.specs.declared.cmp.Ordering.TheVariants.{Less, Equal, Greater}
 use Rattle.string_order.proofs.OrderLaws.{alike_same, alike-within, ordered-drop}
 use Rattle.name_search.specs.Halvings.{in_common}
 
@@ -91,9 +89,8 @@ module _ (t : Tree) (sound : Sound t) (n : ℕ) (directory : is_directory t n �
     common-begins e l u =
         cond_cases (λ (k : ℕ). Begins k e) (ltb (length wanted) 32) _ _ (λ _. none_needed)
         (λ _. cond_cases (λ (k : ℕ). Begins k e) (ltb (t.count n) 4) _ _ (λ _. none_needed)
-        (λ _. cond_cases (λ (k : ℕ). Begins k e) (ltb low high) _ _
-        (λ q. shares-all low e (alike-within first wanted).1 (some_bytes (t.first n) low (omega arith)) (some_bytes _ low (omega (arith, ltb-true low high q))) l u)
-        (λ q. shares-all high e (alike-within last wanted).1 (some_bytes (t.first n) high (omega (arith, ltb-false low high q))) (some_bytes _ high (omega arith)) l u)))
+        (λ _. shares-all (min low high) e (omega (arith, (alike-within first wanted).1)) (some_bytes (t.first n) (min low high) (omega arith))
+        (some_bytes _ (min low high) (omega arith)) l u))
       where
         first : List ℕ
         first = t.name (t.first n)
@@ -118,7 +115,7 @@ module _ (t : Tree) (sound : Sound t) (n : ℕ) (directory : is_directory t n �
       let fits : ℕ → Type 0 = λ k. k ≤ length wanted in
       cond_cases fits (ltb (length wanted) 32) _ _ (λ _. omega arith)
       (λ _. cond_cases fits (ltb (t.count n) 4) _ _ (λ _. omega arith)
-      (λ _. cond_cases fits (ltb low high) _ _ (λ _. (alike-within (t.name (t.first n)) wanted).1) (λ _. (alike-within (t.name (t.first n + t.count n - 1)) wanted).1)))
+      (λ _. omega (arith, (alike-within (t.name (t.first n)) wanted).1, (alike-within (t.name (t.first n + t.count n - 1)) wanted).1)))
 
 -- what is in common, by what the code has read
 module _ (t : Tree) (n : ℕ) (wanted : List ℕ) where
@@ -139,57 +136,48 @@ module _ (t : Tree) (n : ℕ) (wanted : List ℕ) where
       high-of : high ≡ alike_blocks (t.name (t.first n + t.count n - 1)) wanted
       high-of = high_is ∙ ap (λ (s : List ℕ). alike_blocks s wanted) (b-is ∙ ap₂ (λ (f k : ℕ). t.name (f + k - 1)) first-is count-is)
 
-      common-least : in_common t n wanted ≡ cond (ltb low high) low high
+      pub common-least : {r : ℕ} → r ≡ min low high → r ≡ in_common t n wanted
       unfolding in_common
-      common-least = rw (le-ltb (length wanted) 32 long, le-ltb (t.count n) 4 (omega arith)) (sym (ap₂ (λ (l h : ℕ). cond (ltb l h) l h) low_of high-of))
-
-      pub common-low : low < high → low ≡ in_common t n wanted
-      common-low h = sym (common-least ∙ rw (lt-ltb low high h))
-
-      pub common-high : high ≤ low → high ≡ in_common t n wanted
-      common-high h = sym (common-least ∙ rw (le-ltb low high h))
+      common-least e = e ∙ ap₂ min low_of high-of ∙ sym (rw (le-ltb (length wanted) 32 long, le-ltb (t.count n) 4 (omega arith)))
 
 -- a directory's names lie inside an accepted table
-module _ (s : List ℕ) (n : ℕ) (accepted : table_check s ≡ Accepted) (directory : is_directory (tree_of s) n ≡ true) where
-  pub node-inside : Sized s × (n < (tree_of s).nodes)
-  node-inside = (accepted-sized s accepted, accepted-below s n accepted directory)
-
+module _ (s : List ℕ) (n : ℕ) (accepted : table_check s ≡ Ok tt) (directory : is_directory (tree_of s) n ≡ true) where
   pub entries-few : (tree_of s).first n + (tree_of s).count n ≤ 4096
   entries-few =
       omega (arith, entries-inside (tree_of s) (accepted-sound s accepted).nodes_hold.directories_hold n directory, (accepted-sized s accepted).few_entries)
 
-  pub name_inside : {c : Counts} → Counted s c → (e : ℕ) → (tree_of s).first n ≤ e → e < (tree_of s).first n + (tree_of s).count n
-      → Counted s c × (e < (tree_of s).entries) × ((tree_of s).name_offset e + (tree_of s).name_length e ≤ (tree_of s).text_length)
-  name_inside counted e l u =
+  pub name_inside : (e : ℕ) → (tree_of s).first n ≤ e → e < (tree_of s).first n + (tree_of s).count n
+      → (e < (tree_of s).entries) × ((tree_of s).name_offset e + (tree_of s).name_length e ≤ (tree_of s).text_length)
+  name_inside e l u =
       let sound = accepted-sound s accepted in
       let inside = entries-inside (tree_of s) sound.nodes_hold.directories_hold n directory in
       let below : e < (tree_of s).entries = omega arith in
-      (counted, below, (name-facts (tree_of s) sound e below).0)
+      (below, (name-facts (tree_of s) sound e below).0)
 
 -- what a comparison's answer tells
-module _ (s t : List ℕ) {o : Order} (is : o ≡ ordered s t) where
-  pub told_same : o ≡ Same → same_bytes t s ≡ true
+module _ (s t : List ℕ) {o : Ordering} (is : o ≡ ordered s t) where
+  pub told_same : o ≡ Equal → same_bytes t s ≡ true
   told_same e = same-around t s ∙ by (same_bytes s t) (before s t) (sym is ∙ e)
     where
-      by : (a b : Bool) → cond a Same (cond b Before After) ≡ Same → a ≡ true
+      by : (a b : Bool) → cond a Equal (cond b Less Greater) ≡ Equal → a ≡ true
       by true b q = refl
-      by false true q = absurd (let z : ◌≡◌ {A = ℕ} 0 1 = cc in omega arith)
-      by false false q = absurd (let z : ◌≡◌ {A = ℕ} 0 1 = cc in omega arith)
+      by false true q = cc
+      by false false q = cc
 
-  pub told-before : o ≡ Before → (same_bytes t s ≡ false) × (before s t ≡ true)
+  pub told-before : o ≡ Less → (same_bytes t s ≡ false) × (before s t ≡ true)
   told-before e = let r = by (same_bytes s t) (before s t) (sym is ∙ e) in (same-around t s ∙ r.0, r.1)
     where
-      by : (a b : Bool) → cond a Same (cond b Before After) ≡ Before → (a ≡ false) × (b ≡ true)
-      by true b q = absurd (let z : ◌≡◌ {A = ℕ} 0 1 = cc in omega arith)
+      by : (a b : Bool) → cond a Equal (cond b Less Greater) ≡ Less → (a ≡ false) × (b ≡ true)
+      by true b q = cc
       by false true q = (refl, refl)
-      by false false q = absurd (let z : ◌≡◌ {A = ℕ} 0 1 = cc in omega arith)
+      by false false q = cc
 
-  pub told-after : o ≡ After → (same_bytes t s ≡ false) × (before s t ≡ false)
+  pub told-after : o ≡ Greater → (same_bytes t s ≡ false) × (before s t ≡ false)
   told-after e = let r = by (same_bytes s t) (before s t) (sym is ∙ e) in (same-around t s ∙ r.0, r.1)
     where
-      by : (a b : Bool) → cond a Same (cond b Before After) ≡ After → (a ≡ false) × (b ≡ false)
-      by true b q = absurd (let z : ◌≡◌ {A = ℕ} 0 1 = cc in omega arith)
-      by false true q = absurd (let z : ◌≡◌ {A = ℕ} 0 1 = cc in omega arith)
+      by : (a b : Bool) → cond a Equal (cond b Less Greater) ≡ Greater → (a ≡ false) × (b ≡ false)
+      by true b q = cc
+      by false true q = cc
       by false false q = (refl, refl)
 
 -- from a position on
@@ -197,13 +185,13 @@ rest-whole : (s : List ℕ) (k : ℕ) → take (length s - k) (drop k s) ≡ dro
 rest-whole s k = take_all (length s - k) (drop k s) (simp length-drop (omega arith))
 
 -- A name of the directory is compared with the one that is wanted, both from where they may differ on.
-module _ (s : List ℕ) (n : ℕ) (accepted : table_check s ≡ Accepted) (directory : is_directory (tree_of s) n ≡ true) (wanted : List ℕ) (hs : Bytes s) (hw : Bytes wanted)
+module _ (s : List ℕ) (n : ℕ) (accepted : table_check s ≡ Ok tt) (directory : is_directory (tree_of s) n ≡ true) (wanted : List ℕ) (hs : (i : ℕ) → get_or s i 0 < 256) (hw : Bytes wanted)
     (e : ℕ) {skip : ℕ} {name : List ℕ} (skip_is : skip ≡ in_common (tree_of s) n wanted) (l : (tree_of s).first n ≤ e) (u : e < (tree_of s).first n + (tree_of s).count n)
     (name-is : name ≡ (tree_of s).name e) where
   begins : (skip ≤ length ((tree_of s).name e)) × SameTo ((tree_of s).name e) wanted skip
   begins =
       subst (λ (k : ℕ). (k ≤ length ((tree_of s).name e)) × SameTo ((tree_of s).name e) wanted k) (sym skip_is)
-      (common-begins (tree_of s) (accepted-sound s accepted) n directory wanted (name-bytes s hs) hw e l u)
+      (common-begins (tree_of s) (accepted-sound s accepted) n directory wanted (name-bytes s (λ i. record { fits = hs i })) hw e l u)
 
   pub skip-fits : skip ≤ length name
   skip-fits = omega (arith, begins.0, ap length name-is)
@@ -213,11 +201,3 @@ module _ (s : List ℕ) (n : ℕ) (accepted : table_check s ≡ Accepted) (direc
       let within : skip ≤ length wanted = omega (arith, skip_is, common-within (tree_of s) (accepted-sound s accepted) n directory wanted) in
       ap₂ ordered (rest-whole wanted skip) (rest-whole name skip ∙ ap (drop skip) name-is)
       ∙ ordered-drop wanted ((tree_of s).name e) skip (λ i h. sym (begins.1 i h)) within begins.0
-
--- a slice taken from its start is the slice
-pub all_of : (s : List ℕ) → take (length s - 0) (drop 0 s) ≡ s
-all_of s = rest-whole s 0
-
-pub over-all : (s : List ℕ) (n : ℕ) {c : Counts} → Counted s c × (table_check s ≡ Accepted) × (is_directory (tree_of s) n ≡ true)
-    → Counted (take (length s - 0) (drop 0 s)) c × (table_check (take (length s - 0) (drop 0 s)) ≡ Accepted) × (is_directory (tree_of (take (length s - 0) (drop 0 s))) n ≡ true)
-over-all s n {c} pre = subst (λ (s : List ℕ). Counted s c × (table_check s ≡ Accepted) × (is_directory (tree_of s) n ≡ true)) (sym (all_of s)) pre

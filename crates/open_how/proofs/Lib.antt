@@ -1,4 +1,3 @@
 pub mod SearchLaws
 pub mod BitNumber
-pub mod CheckLaws
 pub mod HowLaws

@@ -2,7 +2,8 @@
 use Prim.Native.Nat.{ℕ, ◌+◌, ◌-◌, ◌≤◌, ◌<◌}
 use mathlib.Core.Bool.{Bool, true, false, ◌||◌, or-true, or-false}
 use mathlib.Core.Path.{◌≡◌}
-use Rattle.model.specs.Bytes.{find, is_some}
+use Rattle.std.specs.Option.{is_some}
+use Rattle.model.specs.Bytes.{find}
 use Rattle.laws.proofs.ByteLaws.{find-here, find-on, find-done}
 
 -- whether any number from `at` up to `end` passes, where `met` says whether an earlier one did

@@ -7,9 +7,9 @@ ghost use Rattle.model.specs.OpenHow.{unknown_bit, refuse_unknown, tail_set, len
 ghost use Rattle.checks.specs.Checks.{check_of};
 ghost use Rattle.open_how.specs.Fields.{read_how};
 
-use checks::{Check, refuse};
+use checks::refuse;
 use fields::u64_at;
-use model::{Errno, Progress, Refusal};
+use model::{Errno, NOT_WALKED, Refusal};
 
 pub const O_DIRECTORY: u64 = 0x10000;
 
@@ -54,30 +54,21 @@ pub struct How {
     pub resolve: u64,
 }
 
-// The fields of an open_how that no check refuses.
-#[derive(Clone, Copy)]
-pub enum HowRead {
-    Fields(How),
-    Refused(Refusal),
-}
-
 // Whether a byte after the 24th is not zero. No early exit: the loop is then compiled to vector code.
 fn tail_set(how: &[u8]) -> bool
     ensures { result ≡ tail_set how.now }
 {
     let mut set = false;
-    let mut i = FIELDS;
-    while i < how.len() {
+    for i in FIELDS..how.len() {
         if how[i] != 0 {
             set = true;
         }
-        i += 1;
     }
     set
 }
 
 // Too short, too long, tail.
-fn check_length(how: &[u8]) -> Check
+fn check_length(how: &[u8]) -> Result<(), Refusal>
     ensures { result ≡ check_of (length_refused how.now) }
 {
     if how.len() < FIELDS {
@@ -89,73 +80,57 @@ fn check_length(how: &[u8]) -> Check
     if tail_set(how) {
         return refuse(Errno::E2big);
     }
-    Check::Passes
+    Ok(())
 }
 
 // An unknown bit is named by its number, lowest first: b for bit b of flags, 64 + b for bit b of resolve. The base is 0 or 64.
-fn check_bits(x: u64, known: u64, base: u32) -> Check
+fn check_bits(x: u64, known: u64, base: u32) -> Result<(), Refusal>
     requires { base ≤ 64 }
     ensures { result ≡ check_of (refuse_unknown base (unknown_bit known x)) }
 {
     let unknown = x & !known;
     if unknown == 0 {
-        return Check::Passes;
+        return Ok(());
     }
     let detail = base + u64::trailing_zeros(unknown);
-    Check::Refused(Refusal {
+    Err(Refusal {
         errno: Errno::Einval,
         detail,
-        progress: Progress {
-            components: 0,
-            links: 0,
-        },
+        progress: NOT_WALKED,
     })
 }
 
 // Both BENEATH and IN_ROOT.
-fn check_scopes(resolve: u64) -> Check
+fn check_scopes(resolve: u64) -> Result<(), Refusal>
     ensures { result ≡ check_of (scopes_refused resolve) }
 {
-    if !has(BENEATH, resolve) {
-        return Check::Passes;
+    if has(BENEATH, resolve) && has(IN_ROOT, resolve) {
+        return refuse(Errno::Einval);
     }
-    if !has(IN_ROOT, resolve) {
-        return Check::Passes;
-    }
-    refuse(Errno::Einval)
+    Ok(())
 }
 
 // Mode or padding not zero: the eight bytes between flags and resolve, read as one number.
-fn check_mode(how: &[u8]) -> Check
+fn check_mode(how: &[u8]) -> Result<(), Refusal>
     requires { 24 ≤ length how.now }
     ensures { result ≡ check_of (mode_refused how.now) }
 {
     if u64_at(how, 8) != 0 {
         return refuse(Errno::Einval);
     }
-    Check::Passes
+    Ok(())
 }
 
 // In this order: length, flags, resolve, both scopes, mode.
-pub fn read_how(how: &[u8]) -> HowRead
+pub fn read_how(how: &[u8]) -> Result<How, Refusal>
     ensures { result ≡ read_how how.now }
 {
-    if let Check::Refused(r) = check_length(how) {
-        return HowRead::Refused(r);
-    }
+    check_length(how)?;
     let flags = u64_at(how, 0);
     let resolve = u64_at(how, 16);
-    if let Check::Refused(r) = check_bits(flags, KNOWN_FLAGS, 0) {
-        return HowRead::Refused(r);
-    }
-    if let Check::Refused(r) = check_bits(resolve, KNOWN_RESOLVE, 64) {
-        return HowRead::Refused(r);
-    }
-    if let Check::Refused(r) = check_scopes(resolve) {
-        return HowRead::Refused(r);
-    }
-    if let Check::Refused(r) = check_mode(how) {
-        return HowRead::Refused(r);
-    }
-    HowRead::Fields(How { flags, resolve })
+    check_bits(flags, KNOWN_FLAGS, 0)?;
+    check_bits(resolve, KNOWN_RESOLVE, 64)?;
+    check_scopes(resolve)?;
+    check_mode(how)?;
+    Ok(How { flags, resolve })
 }

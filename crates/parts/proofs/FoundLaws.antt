@@ -1,7 +1,7 @@
 -- Laws of a search that gives its end where it finds nothing. Assumes nothing.
+use Rattle.std.specs.Prelude.{Option, None, Some}
 use Prim.Native.Nat.{ℕ, ◌+◌, ◌-◌, ◌≤◌, ◌<◌}
 use mathlib.Core.Bool.{Bool, true, false}
-use mathlib.Core.Option.{Option, none, some}
 use mathlib.Core.Path.{◌≡◌, refl, sym, ap, ◌∙◌}
 use native.Mathlib.Omega.{arith}
 use Rattle.model.specs.Bytes.{find}
@@ -32,6 +32,9 @@ module _ {p : ℕ → Bool} {end first k : ℕ} (seen : FirstFrom p end first k)
   pub first-miss : {told : Bool} → k < end → told ≡ p k → told ≡ false → FirstFrom p end first (k + 1)
   first-miss l e f = record { within = omega arith; from-here = seen.from-here ∙ found-on p k end l (sym e ∙ f) }
 
+  pub first-end : end ≤ k → end ≡ first
+  first-end u = sym (seen.from-here ∙ found-done p k end u)
+
   pub first-none : end ≤ k → k ≡ first
   first-none u =
       let e : k ≡ end = omega (arith, seen.within) in
@@ -48,24 +51,24 @@ pub found : (p : ℕ → Bool) (at end : ℕ) → at ≤ end → Found p at end 
 found p at end h = by (find p at (end - at)) refl
   where
     by : (o : Option ℕ) → find p at (end - at) ≡ o → Found p at end (found_or end o)
-    by none e = record {
+    by None e = record {
       from = h;
       below = omega arith;
       passes = λ l. absurd (omega arith);
       lowest = λ i l u. find_none p at (end - at) e i l (omega arith);
     }
-    by (some k) e =
+    by (Some k) e =
         let l = find-some p at (end - at) k e in
         record { from = l.from; below = omega (arith, l.below); passes = λ u. l.passes; lowest = l.lowest }
 
 -- back to the search
-pub found_some : (end k : ℕ) (o : Option ℕ) → found_or end o ≡ k → k < end → o ≡ some k
-found_some end k none e h = absurd (omega (arith, e))
-found_some end k (some i) e h = ap some e
+pub found_some : (end k : ℕ) (o : Option ℕ) → found_or end o ≡ k → k < end → o ≡ Some k
+found_some end k None e h = absurd (omega (arith, e))
+found_some end k (Some i) e h = ap Some e
 
-pub found_none : (p : ℕ → Bool) (count : ℕ) → count ≤ found_or count (find p 0 count) → find p 0 count ≡ none
+pub found_none : (p : ℕ → Bool) (count : ℕ) → count ≤ found_or count (find p 0 count) → find p 0 count ≡ None
 found_none p count h = by (find p 0 count) refl h
   where
-    by : (o : Option ℕ) → find p 0 count ≡ o → count ≤ found_or count o → o ≡ none
-    by none e h = refl
-    by (some k) e h = absurd (omega (arith, (find-some p 0 count k e).below))
+    by : (o : Option ℕ) → find p 0 count ≡ o → count ≤ found_or count o → o ≡ None
+    by None e h = refl
+    by (Some k) e h = absurd (omega (arith, (find-some p 0 count k e).below))

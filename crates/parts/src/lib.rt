@@ -4,5 +4,4 @@
 
 pub mod lending;
 pub mod records;
-pub mod search;
 pub mod texts;

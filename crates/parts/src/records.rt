@@ -16,6 +16,7 @@ pub struct Counts {
     pub entries: usize,
 }
 
+// A number, and no enum: a `match` on it tells the invalid range apart (DECISIONS, Forms).
 pub fn node_kind(nodes: &[u8], n: usize) -> usize
     requires { 12 * n + 12 ≤ length nodes.now }
     ensures { (result ≡ kind_in nodes.now n) × (result < 2 ^ 16) }
@@ -48,10 +49,7 @@ pub fn is_directory(nodes: &[u8], c: Counts, n: usize) -> bool
     requires { NodeRecords c nodes.now }
     ensures { result ≡ is_directory (nodes_tree c nodes.now []) n }
 {
-    if c.nodes <= n {
-        return false;
-    }
-    node_kind(nodes, n) == 1
+    n < c.nodes && node_kind(nodes, n) == 1
 }
 
 pub fn mount_root(mounts: &[u8], m: usize) -> usize

@@ -1,6 +1,5 @@
-// "A reading place in the text that knows which bytes remain" (RULES 8.8): a `Reader` is a text and a position in it. Its functions are thin:
-// each takes a reader apart or puts one together, and leaves the work to a function of a slice and a position. `next_component` and `at_end`
-// serve callers that hold a text and a position: they make the reader.
+// "A reading place in the text that knows which bytes remain" (RULES 8.8): a `Reader` is a text and a position in it. `next_component`
+// and `at_end` serve callers that hold a text and a position: they make the reader.
 #![tactic(auto)]
 
 ghost use Rattle.std.specs.Prelude.{◌≡◌, ◌≤◌, eqb, length, drop};
@@ -23,31 +22,6 @@ pub struct Span {
     pub next: usize,
 }
 
-// The work of `component`.
-fn span_at(s: &[u8], at: usize) -> Span
-    ensures { result ≡ span_at s.now at }
-{
-    let end = component_end(s, at);
-    let next = skip_slashes(s, end);
-    Span { end, next }
-}
-
-// The work of `remaining`.
-fn rest_at<'a>(s: &'a [u8], at: usize) -> &'a [u8]
-    requires { at ≤ length s.now }
-    ensures { result.now ≡ drop at s.now }
-{
-    &s[at..]
-}
-
-// The work of `behind`.
-fn next_start(s: &[u8], at: usize) -> usize
-    ensures { result ≡ next_start s.now at }
-{
-    let span = span_at(s, at);
-    span.next
-}
-
 impl<'a> Reader<'a> {
     // The reading place at a position of a text.
     pub fn at(text: &'a [u8], at: usize) -> Reader<'a>
@@ -61,24 +35,25 @@ impl<'a> Reader<'a> {
         requires { self.at ≤ length self.text.now }
         ensures { result.now ≡ drop self.entry.at self.entry.text.now }
     {
-        rest_at(self.text, self.at)
+        &self.text[self.at..]
     }
 
     // The component there: where it ends, and where the one after it starts.
     pub fn component(self) -> Span
         ensures { result ≡ span_at self.entry.text.now self.entry.at }
     {
-        span_at(self.text, self.at)
+        let end = component_end(self.text, self.at);
+        let next = skip_slashes(self.text, end);
+        Span { end, next }
     }
 
     // The reading place behind that component: where the one after it starts, in the same text.
     pub fn behind(self) -> Reader<'a>
         ensures { (result.text ≡ self.entry.text) × (result.at ≡ next_start self.entry.text.now self.entry.at) }
     {
-        let next = next_start(self.text, self.at);
         Reader {
-            text: self.text,
-            at: next,
+            at: self.component().next,
+            ..self
         }
     }
 }
@@ -90,17 +65,10 @@ pub fn next_component(text: &[u8], at: usize) -> Span
     Reader::at(text, at).component()
 }
 
-// The work of `at_end`.
-fn is_empty(s: &[u8]) -> bool
-    ensures { result ≡ eqb (length s.now) 0 }
-{
-    s.len() == 0
-}
-
 // Whether no byte remains at a position of a text.
 pub fn at_end(text: &[u8], at: usize) -> bool
     requires { at ≤ length text.now }
     ensures { result ≡ eqb at (length text.now) }
 {
-    is_empty(Reader::at(text, at).remaining())
+    Reader::at(text, at).remaining().is_empty()
 }

@@ -1,2 +1,3 @@
 pub mod Requests
 pub mod Walking
+pub mod Scopes

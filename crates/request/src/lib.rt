@@ -1,16 +1,17 @@
 // What a call asks of its walk, once no check refuses it.
 #![tactic(auto)]
 
+mod scope;
+
 ghost use Rattle.std.specs.Prelude.{not, ◌||◌, ◌≡◌};
 ghost use Rattle.model.specs.Bytes.{has};
 ghost use Rattle.model.specs.OpenHow.{O_NOFOLLOW};
 ghost use Rattle.request.specs.Requests.{numbers_by};
-ghost use Rattle.request.specs.Walking.{Reading};
 
-use image::records::mount_root;
+pub use crate::scope::Scope;
 use model::{Handle, Place};
 use open_how::{How, IN_ROOT, O_NOFOLLOW, O_PATH, has};
-use parts::records::Counts;
+use tree::Table;
 
 // A request as numbers: the handle's place and mark, the root, resolve's bits, whether a last link is followed, and O_PATH.
 #[derive(Clone, Copy)]
@@ -27,43 +28,29 @@ pub struct Request {
 fn follows_last(flags: u64, slash: bool) -> bool
     ensures { result ≡ not (has O_NOFOLLOW flags) || slash }
 {
-    if has(O_NOFOLLOW, flags) {
-        return slash;
-    }
-    true
+    !has(O_NOFOLLOW, flags) || slash
 }
 
 // From the handle, the open_how's fields and whether the path ends in a slash. "The root is the handle under IN_ROOT, else mount 0's
 // root." (RULES 9.2)
-pub fn request_of(image: &[u8], c: Counts, h: Handle, f: How, slash: bool) -> Request
-    requires { Reading image.now c }
-    ensures { result ≡ numbers_by image.now h f slash }
+pub fn request_of(t: Table<'_>, h: Handle, f: How, slash: bool) -> Request
+    ensures { result ≡ numbers_by t.entry.image.bytes.now h f slash }
 {
-    let resolve = f.resolve;
-    let flags = f.flags;
-    let handle = Place {
-        mount: h.mount,
-        node: h.node,
+    let handle = Place::from(h);
+    let root = if has(IN_ROOT, f.resolve) {
+        handle
+    } else {
+        Place {
+            mount: 0,
+            node: t.image.mount_root(0),
+        }
     };
-    let follow = follows_last(flags, slash);
-    let opath = has(O_PATH, flags);
-    if has(IN_ROOT, resolve) {
-        return Request {
-            handle,
-            root: handle,
-            mark: h.mark,
-            resolve,
-            follow,
-            opath,
-        };
-    }
-    let node = mount_root(image, c, 0);
     Request {
         handle,
-        root: Place { mount: 0, node },
+        root,
         mark: h.mark,
-        resolve,
-        follow,
-        opath,
+        resolve: f.resolve,
+        follow: follows_last(f.flags, slash),
+        opath: has(O_PATH, f.flags),
     }
 }

@@ -1,8 +1,8 @@
 -- An image that was written, cut into its parts again: its length, what its header says, its four parts, and each name and body of its text.
 -- Assumes nothing.
+use Rattle.std.specs.Prelude.{None}
 use Prim.Native.Nat.{ℕ, ◌+◌, ◌*◌, ◌^◌, ◌≤◌, ◌<◌}
 use mathlib.Core.List.{List, [], ◌∷◌, ◌++◌}
-use mathlib.Core.Option.{none}
 use mathlib.Core.Path.{◌≡◌, refl, ap, ap₂, ◌∙◌}
 use native.Mathlib.Omega.{arith}
 use lib.ListN.{length, get_or, take, length-append}
@@ -108,7 +108,7 @@ module _ (t : Tree) where
   unfolding image_of header_bytes ascii
   signature = refl
 
-  pub image-signed : rule2 (image_of t) ≡ none
+  pub image-signed : rule2 (image_of t) ≡ None
   unfolding rule2
   image-signed =
       let zero_field : field 2 (image_of t) 10 ≡ 0 = header-field 3 2 0 10 (omega arith) refl (omega arith) refl (omega arith) in

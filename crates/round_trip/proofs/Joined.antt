@@ -1,4 +1,5 @@
 -- Strings joined one after the other, cut apart again: parts and fields of them, and of fields' bytes. Assumes nothing.
+use Rattle.std.proofs.lemmas.Bool.{cases_lt}
 use Prim.Native.Nat.{ℕ, zero, suc, ◌+◌, ◌*◌, ◌^◌, ◌≤◌, ◌<◌}
 use mathlib.Core.List.{List, [], ◌∷◌, ◌++◌}
 use mathlib.Core.Path.{◌≡◌, refl, sym, ap, ap₂, ◌∙◌}
@@ -8,7 +9,6 @@ use native.Mathlib.Nat.{eq-or-lt_of_le, le_of_suc-le-suc, mul-le-mul_left}
 use lib.ListN.{length, get_or, take, drop, length-append, length-drop, get_or-append}
 use lib.Seq.{drop_at, take-append-le, drop-append-le, drop-append-add, split_at, get_or-append-add, take_all}
 use Rattle.model.specs.Bytes.{field, field_bytes, fields_bytes, join_below, part}
-use Rattle.laws.proofs.Cases.{below_or}
 use Rattle.laws.proofs.ByteLaws.{field-ext, field-bytes, field_past}
 use Rattle.laws.proofs.PartLaws.{field-part}
 use Rattle.laws.proofs.SumLaws.{sum-grows}
@@ -83,4 +83,4 @@ module _ (f : ℕ → List ℕ) where
       ∙ ap (λ (s : List ℕ). field width s o) (join-part rows k (size * k) size l (join-records size f whole k) (whole k)) ∙ here k l)
       (λ (l : rows ≤ k).
       field_past width (join_below f rows) at (omega (arith, join-records size f whole rows, mul-le-mul_left size l)) ∙ sym (past k l))
-      (below_or k rows)
+      (cases_lt k rows)

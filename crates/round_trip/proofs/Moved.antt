@@ -6,7 +6,8 @@ use mathlib.Core.Path.{◌≡◌, refl, ap, ap₂}
 use native.Mathlib.Omega.{arith}
 use lib.Dec.{eqb, ltb}
 use borrow.Author.Tests.{eqb-true, eq-eqb, lt-ltb, le-leb}
-use Rattle.model.specs.Bytes.{part, first_failing, is_some, or_else}
+use Rattle.std.specs.Option.{is_some}
+use Rattle.model.specs.Bytes.{part, first_failing, or_else}
 use Rattle.model.specs.Tree.{Tree, is_directory, holds, under}
 use Rattle.model.specs.TableCheck.{unless, directory_count, sum_below, counts_before, directory_holds, file_holds, symlink_holds, magic_holds, node_holds, rule4, name_holds, follows, ascends}
 use Rattle.model.specs.TableCheck.{stands_in_parent, entry_holds, rule5, point_holds, shares_point, hangs, mount_holds, rule6, target_holds, magic_target_holds, rule7, records_check}

@@ -1,4 +1,5 @@
 -- The tree that is read back from what was written of a tree is that tree, with its texts where they were written. Assumes nothing.
+use Rattle.std.proofs.lemmas.Bool.{cases_lt}
 use Prim.Native.Nat.{ℕ, ◌+◌, ◌*◌, ◌^◌, ◌≤◌, ◌<◌}
 use mathlib.Core.Bool.{cond}
 use mathlib.Core.List.{List, [], ◌∷◌}
@@ -12,7 +13,7 @@ use Rattle.model.specs.Bytes.{field, part}
 use Rattle.model.specs.Tree.{Tree, first_in, count_in, body_in, name_offset_in, name_length_in, name_in}
 use Rattle.model.specs.Tree.{tree_of}
 use Rattle.model.specs.Build.{body_length, body_bytes, text_of, name_at, names_length, body_at, written_sizes, written_length, node_bytes, mount_bytes, entry_bytes, image_of}
-use Rattle.laws.proofs.Cases.{cond_cases, below_or}
+use Rattle.laws.proofs.Cases.{cond_cases}
 use Rattle.laws.proofs.OverLaws.{widths}
 use Rattle.round_trip.proofs.Columns.{Column, column-back}
 use Rattle.round_trip.proofs.Moved.{by-link, moved, names_inside, bodies_inside}
@@ -98,7 +99,7 @@ module _ (t : Tree) where
         ⊎_elim
         (λ (h : e < t.entries). rw (lt-ltb e t.entries h) (name-cut t texts e h))
         (λ (h : t.entries ≤ e). rw (readable.name-lengths.past e h) (sym (readable.names-past e h)))
-        (below_or e t.entries)
+        (cases_lt e t.entries)
 
     name_back : (e : ℕ) → name_in (entries_of t) (text_of t) e ≡ t.name e
     name_back e = ap₂ (part (text_of t)) (offset-back e) (length_back e) ∙ name-there e
@@ -106,7 +107,7 @@ module _ (t : Tree) where
     -- past the last record there is no symbolic link
     link-below : (n : ℕ) → t.kind n ≡ 3 → n < t.nodes
     link-below n k =
-        ⊎_elim (λ (h : n < t.nodes). h) (λ (h : t.nodes ≤ n). absurd (omega (arith, readable.kinds.past n h))) (below_or n t.nodes)
+        ⊎_elim (λ (h : n < t.nodes). h) (λ (h : t.nodes ≤ n). absurd (omega (arith, readable.kinds.past n h))) (cases_lt n t.nodes)
 
     link-there : (n : ℕ) → t.kind n ≡ 3 → part (text_of t) (body_at t (names_length t) n) (t.count n) ≡ t.body n
     unfolding body_length body_bytes

@@ -1,11 +1,11 @@
 -- Two images whose counts and columns agree hold the same tree: past its counts every column of an image reads as 0. Assumes nothing.
+use Rattle.std.proofs.lemmas.Bool.{cases_lt}
 use Prim.Native.Nat.{ℕ, zero, suc, ◌+◌, ◌*◌, ◌≤◌, ◌<◌}
 use mathlib.Core.Logic.{◌⊎◌, inl, inr}
 use mathlib.Core.List.{List, [], ◌∷◌}
 use mathlib.Core.Path.{◌≡◌, sym, ◌∙◌}
 use native.Mathlib.Omega.{arith}
 use lib.ListN.{length, length-take}
-use Rattle.laws.proofs.Cases.{below_or}
 use Rattle.model.specs.Bytes.{field, part}
 use Rattle.model.specs.Tree.{Tree, sizes_of, mounts_at, entries_at, nodes_part, mounts_part, entries_part, tree_of}
 use Rattle.laws.proofs.ByteLaws.{field_past}
@@ -37,7 +37,7 @@ pub record Agreeing (t u : Tree) : Type 0 where
 -- columns that agree below a number, and are one value from there on
 module _ {A : Type 0} (f g : ℕ → A) where
   up-to-last : (k n : ℕ) → f k ≡ g k → (n < k → f n ≡ g n) → n < suc k → f n ≡ g n
-  up-to-last k n last earlier h = at (below_or n k)
+  up-to-last k n last earlier h = at (cases_lt n k)
     where
       at : (n < k) ⊎ (k ≤ n) → f n ≡ g n
       at (inl l) = earlier l
@@ -53,7 +53,7 @@ module _ {A : Type 0} (f g : ℕ → A) where
       up-to-last k n last (listed_at k n earlier) h
 
   everywhere : (k : ℕ) (z : A) → listed f k ≡ listed g k → ((n : ℕ) → k ≤ n → f n ≡ z) → ((n : ℕ) → k ≤ n → g n ≡ z) → (n : ℕ) → f n ≡ g n
-  everywhere k z e p q n = at (below_or n k)
+  everywhere k z e p q n = at (cases_lt n k)
     where
       at : (n < k) ⊎ (k ≤ n) → f n ≡ g n
       at (inl l) = listed_at k n e l

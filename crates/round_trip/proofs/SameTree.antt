@@ -1,13 +1,14 @@
 -- Trees that differ only in where their texts lie: each function takes the same value on a tree as on the tree without its offsets, so the equation of
 -- these carries over. Assumes nothing.
+use Rattle.std.specs.Prelude.{Option, None, Some, Ok}
+use Rattle.std.proofs.lemmas.Bool.{and_parts}
 use Prim.Native.Nat.{ℕ}
 use mathlib.Core.Bool.{Bool, true, false, cond, ◌||◌}
 use mathlib.Core.List.{List, [], ◌∷◌}
-use mathlib.Core.Option.{Option, none, some}
 use mathlib.Core.Path.{◌≡◌, refl, sym, ap, ◌∙◌}
 use lib.Dec.{eqb, ltb}
 use borrow.Author.Tests.{eqb-true}
-use Rattle.laws.proofs.Cases.{both, cond_both}
+use Rattle.laws.proofs.Cases.{cond_both}
 use Rattle.model.specs.Bytes.{has, fields_bytes}
 use Rattle.model.specs.Tree.{Tree, tree_of, is_directory, under, mount_on, covered}
 use Rattle.model.specs.TableCheck.{table_check}
@@ -19,7 +20,6 @@ use Rattle.model.specs.Halving.{halving}
 use Rattle.model.specs.Lookup.{looked_up, lookup_in, lookup_name}
 use Rattle.model.specs.Walk.{root_of, walk_path}
 use Rattle.model.specs.Resolve.{Call, refused_after_table, refused_before, request_of, trace_of, resolve}
-use Rattle.model.specs.declared.Verdict.TheVariants.{Accepted}
 use Rattle.model.specs.declared.Handle.{Handle}
 use Rattle.round_trip.specs.SameTree.{without_offsets, SameTree, in_tree, WalksAlike, HandlesAlike, AnswersAlike, LookupsAlike, OneImage}
 use Rattle.round_trip.proofs.WalksAlike.{walk-bare}
@@ -41,12 +41,12 @@ handles-alike t u e h = carried (λ v. handle_refused v h) (handle-bare h) t u e
 -- a lookup, its directory given
 halving-bare : (t : Tree) (n : ℕ) (name : List ℕ) → is_directory t n ≡ true → halving t n name ≡ halving (without_offsets t) n name
 unfolding is_directory halving without_offsets
-halving-bare t n name e = let k : t.kind n ≡ 1 = eqb-true _ 1 (both (ltb n t.nodes) (eqb (t.kind n) 1) e).1 in rw k
+halving-bare t n name e = let k : t.kind n ≡ 1 = eqb-true _ 1 (and_parts (ltb n t.nodes) (eqb (t.kind n) 1) e).1 in rw k
 
 found-bare : (t : Tree) (o : Option ℕ) (names : ℕ) → looked_up t o names ≡ looked_up (without_offsets t) o names
 unfolding without_offsets
-found-bare t none names = refl
-found-bare t (some e) names = refl
+found-bare t None names = refl
+found-bare t (Some e) names = refl
 
 lookup-bare : (n : ℕ) (name : List ℕ) (t : Tree) → lookup_in t n name ≡ lookup_in (without_offsets t) n name
 unfolding lookup_in is_directory without_offsets
@@ -63,7 +63,7 @@ root-bare : (t : Tree) → root_of t 0 ≡ root_of (without_offsets t) 0
 unfolding root_of without_offsets
 root-bare t = refl
 
-module _ (image image' : List ℕ) (h : table_check image ≡ Accepted) (h' : table_check image' ≡ Accepted) (e : SameTree (tree_of image) (tree_of image')) (call : Call) where
+module _ (image image' : List ℕ) (h : table_check image ≡ Ok tt) (h' : table_check image' ≡ Ok tt) (e : SameTree (tree_of image) (tree_of image')) (call : Call) where
   before-alike : refused_before image call ≡ refused_before image' call
   unfolding refused_before refused_after_table
   before-alike = rw (h, h', handles-alike (tree_of image) (tree_of image') e call.handle)

@@ -1,29 +1,27 @@
 -- The theorems of `SameTree` put to use, so that they are no promises about nothing: a second image of the bench tree, whose names and bodies share their text
 -- and leave a byte over. What it answers comes from the worked tables by the theorems; written again it is the bench image. Assumes nothing.
+use Rattle.std.specs.Prelude.{Some, Ok}
 use Prim.Native.Nat.{ℕ}
 use mathlib.Core.Bool.{true, false}
 use mathlib.Core.List.{List, [], ◌∷◌, map}
-use mathlib.Core.Option.{some}
 use mathlib.Core.Path.{◌≡◌, refl, sym, ap, ◌∙◌}
 use lib.ListN.{length, take}
-use Rattle.model.specs.Bytes.{field, field_bytes, fields_bytes, join_below, part, contains, same_bytes, before, find, first_failing, ascii}
-use Rattle.model.specs.Tree.{sizes_of, nodes_part, mounts_part, entries_part, text_part, tree_of, is_directory, is_link, holds, lookup, meets_within, under, mount_on}
-use Rattle.model.specs.TableCheck.{rule1, rule2, counts_fit, whole_length, rule3, directory_count, sum_below, counts_before, directory_holds, file_holds, symlink_holds, magic_holds}
-use Rattle.model.specs.TableCheck.{node_holds, rule4, name_holds, follows, ascends, stands_in_parent, entry_holds, rule5, point_holds, shares_point, hangs, mount_holds, rule6, target_holds}
-use Rattle.model.specs.TableCheck.{magic_target_holds, rule7, records_check, table_check}
+use Rattle.model.specs.Bytes.{fields_bytes, join_below, ascii}
+use Rattle.model.specs.Tree.{tree_of}
+use Rattle.model.specs.TableCheck.{whole_length, sum_below}
+use Rattle.model.specs.TableCheck.{table_check}
 use Rattle.model.specs.Build.{body_length, body_bytes, text_of, name_at, names_length, body_at, written_sizes, header_bytes, node_bytes, mount_bytes, entry_bytes, image_of}
 use Rattle.model.specs.Answers.{refusal, not_walked}
-use Rattle.model.specs.Path.{up_to_slash, components_from, components, absolute, ends_in_slash}
-use Rattle.model.specs.Trace.{Escape, Link, Trace, stop, meet, stand, meets}
-use Rattle.model.specs.Walk.{Request, place_at, same_place, root_of, enter, to_parent, climb, at_top, go_up, symbolic_link, follow_link, step_to, by_name, one_component, finish}
-use Rattle.model.specs.Walk.{transition, walk_pending, walk, begin_at, walk_path}
+use Rattle.model.specs.Trace.{Escape, Link, Trace, stop, meet, stand}
+use Rattle.model.specs.Walk.{Request, place_at}
+use Rattle.model.specs.Walk.{walk_path}
 use Rattle.model.specs.Handles.{handle_refused}
 use Rattle.model.specs.Lookup.{lookup_name, lookup_numbers}
 use Rattle.model.specs.Resolve.{resolve}
 use Rattle.model.specs.declared.Handle.{Handle}
 use Rattle.model.specs.declared.Errno.TheVariants.{Enotdir}
-use Rattle.model.specs.declared.Verdict.TheVariants.{Accepted}
-use Rattle.model.proofs.BenchTree.{digit, hex_bytes, hex, bench_nodes, bench_mounts, bench_entries, bench, at, worked_table, run}
+use Rattle.model.proofs.Computing.{of-trees, of-tables, of-walks, of-bench}
+use Rattle.model.proofs.BenchTree.{bench, at, worked_table, run}
 use Rattle.model.proofs.WorkedTable.{worked}
 use Rattle.model.proofs.Names.{Row, looked_up_in, names}
 use Rattle.model.proofs.WorkedNames.{worked-names}
@@ -33,7 +31,7 @@ use Rattle.round_trip.proofs.SameColumns.{listed, Agreeing, columns-same}
 use Rattle.round_trip.proofs.SameTree.{walks-alike, handles-alike, answers-alike, lookups-alike, one-image}
 
 sharing-agrees : Agreeing (without_offsets (tree_of bench)) (without_offsets (tree_of sharing))
-unfolding field part ascii sizes_of nodes_part mounts_part entries_part text_part tree_of digit hex_bytes hex bench_nodes bench_mounts bench_entries bench sharing without_offsets listed
+unfolding of-trees of-bench sharing without_offsets listed
 sharing-agrees = record {
   nodes-agree = refl;
   mounts-agree = refl;
@@ -52,12 +50,8 @@ sharing-agrees = record {
   entry-nodes = refl;
 }
 
-sharing-accepted : table_check sharing ≡ Accepted
-unfolding field part contains same_bytes before find first_failing ascii
-    sizes_of nodes_part mounts_part entries_part text_part tree_of is_directory holds meets_within under
-    rule1 rule2 counts_fit whole_length rule3 directory_count sum_below counts_before directory_holds file_holds symlink_holds magic_holds node_holds rule4
-    name_holds follows ascends stands_in_parent entry_holds rule5 point_holds shares_point hangs mount_holds rule6 target_holds magic_target_holds rule7 records_check table_check
-    digit hex_bytes hex bench_mounts sharing
+sharing-accepted : table_check sharing ≡ Ok tt
+unfolding of-tables of-bench sharing
 sharing-accepted = refl
 
 same : SameTree (tree_of sharing) (tree_of bench)
@@ -75,31 +69,28 @@ up_trace =
     (stop (at 0 0 4 1))))))))
 
 bench-walk : walk_path asked false (ascii "cal/up") ≡ up_trace
-unfolding field part same_bytes find ascii sizes_of nodes_part mounts_part entries_part text_part tree_of is_directory is_link lookup mount_on up_to_slash components_from components
-    absolute ends_in_slash meets same_place root_of enter to_parent climb at_top go_up symbolic_link follow_link step_to by_name one_component finish transition walk_pending walk begin_at
-    walk_path digit hex_bytes hex bench_nodes bench_mounts bench_entries bench
+unfolding of-walks of-bench
 bench-walk = refl
 
 -- the handle (0,3) is a file
 abbrev file : Handle
 file = record { mount = 0; node = 3; mark = false }
 
-bench-handle : handle_refused (tree_of bench) file ≡ some (refusal Enotdir not_walked)
-unfolding handle_refused tree_of sizes_of field part nodes_part is_directory bench bench_nodes digit hex_bytes hex ascii
+bench-handle : handle_refused (tree_of bench) file ≡ Some (refusal Enotdir not_walked)
+unfolding of-trees of-bench handle_refused
 bench-handle = refl
 
 bench-again : image_of (tree_of bench) ≡ bench
-unfolding field field_bytes fields_bytes join_below part ascii sizes_of nodes_part mounts_part entries_part text_part tree_of whole_length sum_below
+unfolding of-trees of-bench fields_bytes join_below whole_length sum_below
     body_length body_bytes text_of name_at names_length body_at written_sizes header_bytes node_bytes mount_bytes entry_bytes image_of
-    digit hex_bytes hex bench_nodes bench_mounts bench_entries bench
 bench-again = refl
 
 bench-length : length bench ≡ 316
-unfolding ascii hex_bytes hex bench_nodes bench_mounts bench_entries bench
+unfolding of-bench
 bench-length = refl
 
 sharing-length : length sharing ≡ 298
-unfolding ascii hex_bytes hex bench_mounts sharing
+unfolding of-bench sharing
 sharing-length = refl
 
 -- the worked calls and lookups over the bench image, by their rows
@@ -119,11 +110,11 @@ unfolding names looked_up_in
 bench-lookups = ap (take 18) worked-names.rows
 
 pub record SameTreeWitnessed : Type 0 where
-  pub accepted : table_check sharing ≡ Accepted
+  pub accepted : table_check sharing ≡ Ok tt
   pub same-tree : SameTree (tree_of sharing) (tree_of bench)
   pub lengths : length bench ∷ length sharing ∷ [] ≡ 316 ∷ 298 ∷ []
   pub walked : walk_path (in_tree (tree_of sharing) asked) false (ascii "cal/up") ≡ up_trace
-  pub handle-refused : handle_refused (tree_of sharing) file ≡ some (refusal Enotdir not_walked)
+  pub handle-refused : handle_refused (tree_of sharing) file ≡ Some (refusal Enotdir not_walked)
   pub calls : map (λ c. resolve sharing c.call) worked_table ≡ map (λ c. c.expected) worked_table
   pub looked-up : map (numbers_in sharing) lookups ≡ map (λ r. r.expected) lookups
   pub written : image_of (tree_of sharing) ≡ bench

@@ -1,14 +1,15 @@
 -- A walk reads nothing of where texts lie: over a tree without the offsets it is the same walk, event by event. It reads `first` of a directory or of
 -- a magic link, and the body of a symbolic link. Assumes nothing.
+use Rattle.std.specs.Prelude.{Option, None, Some}
+use Rattle.std.proofs.lemmas.Bool.{and_parts}
 use Prim.Native.Nat.{ℕ, zero, suc}
 use mathlib.Core.Bool.{Bool, true, not, ◌&&◌, ◌||◌}
 use mathlib.Core.List.{List, [], ◌∷◌}
-use mathlib.Core.Option.{Option, none, some}
 use mathlib.Core.Path.{◌≡◌, refl}
 use lib.Dec.{eqb, ltb}
 use lib.ListN.{length}
 use borrow.Author.Tests.{eqb-true}
-use Rattle.laws.proofs.Cases.{both, first_of, cond_both}
+use Rattle.laws.proofs.Cases.{first_of, cond_both}
 use Rattle.model.specs.Bytes.{same_bytes, ascii}
 use Rattle.model.specs.Tree.{Tree, is_directory, is_link, lookup, mount_on}
 use Rattle.model.specs.Path.{Component, absolute}
@@ -23,8 +24,8 @@ use Rattle.round_trip.specs.SameTree.{without_offsets, in_tree}
 module _ (t : Tree) where
   enter-by : (p : Place) (o : Option ℕ) → enter_by t p o ≡ enter_by (without_offsets t) p o
   unfolding root_of without_offsets
-  enter-by p none = refl
-  enter-by p (some m) = refl
+  enter-by p None = refl
+  enter-by p (Some m) = refl
 
   enter-alike : (p : Place) → enter t p ≡ enter (without_offsets t) p
   unfolding enter mount_on without_offsets
@@ -49,7 +50,7 @@ module _ (t : Tree) (a : Request) where
   -- a directory's names are searched alike
   lookup-alike : (n : ℕ) (name : List ℕ) → is_directory t n ≡ true → lookup t n name ≡ lookup (without_offsets t) n name
   unfolding lookup without_offsets is_directory
-  lookup-alike n name e = let k : t.kind n ≡ 1 = eqb-true _ 1 (both (ltb n t.nodes) (eqb (t.kind n) 1) e).1 in rw k
+  lookup-alike n name e = let k : t.kind n ≡ 1 = eqb-true _ 1 (and_parts (ltb n t.nodes) (eqb (t.kind n) 1) e).1 in rw k
 
   module _ (links : ℕ) (pending : List Component) (s : State) where
     abbrev Steps : Step → Step → Type 0
@@ -73,12 +74,12 @@ module _ (t : Tree) (a : Request) where
     step-alike : (last : Bool) (p : Place) (n : ℕ) → Steps (step_to b last p n) (step_to c last p n)
     unfolding step_to is_link without_offsets
     step-alike last p n =
-        cond_both Steps (is_link t n && (not last || a.follow_last)) (λ e. link-alike p n (both (is_link t n) (not last || a.follow_last) e).0) (λ e. rw (enter-alike t (place_at p.mount n)))
+        cond_both Steps (is_link t n && (not last || a.follow_last)) (λ e. link-alike p n (and_parts (is_link t n) (not last || a.follow_last) e).0) (λ e. rw (enter-alike t (place_at p.mount n)))
 
     entry-alike : (last : Bool) (p : Place) (o : Option ℕ) → Steps (step_by b last p o) (step_by c last p o)
     unfolding without_offsets
-    entry-alike last p none = refl
-    entry-alike last p (some e) = step-alike last p (t.entry_node e)
+    entry-alike last p None = refl
+    entry-alike last p (Some e) = step-alike last p (t.entry_node e)
 
     name-alike : (last : Bool) (p : Place) (name : List ℕ) → is_directory t p.node ≡ true → Steps (by_name b last p name) (by_name c last p name)
     unfolding by_name

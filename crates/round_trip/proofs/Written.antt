@@ -1,5 +1,7 @@
 -- What is written from four parts, read again: the verdict is the table check's, what is written is accepted, holds the same tree, and is written again
 -- byte for byte. Assumes nothing.
+use Rattle.std.specs.Prelude.{Result, Ok}
+use Rattle.std.proofs.lemmas.Bool.{and_parts}
 use Prim.Native.Nat.{ℕ, ◌*◌, ◌/◌, ◌≤◌}
 use mathlib.Core.Bool.{Bool, true, false, ◌&&◌, and-true}
 use mathlib.Core.List.{List}
@@ -12,10 +14,8 @@ use Rattle.model.specs.Bytes.{part}
 use Rattle.model.specs.Tree.{Sizes, sizes_of, nodes_part, mounts_part, entries_part, text_part, tree_of, tree_of_parts}
 use Rattle.model.specs.TableCheck.{unless, length_fits, rule1, rule2, counts_fit, rule3, breaks, records_check, table_check}
 use Rattle.model.specs.Build.{Parts, sizes_in, tree_in, records_whole, body_length, body_bytes, written_sizes, written_length, image_of, parts_check}
-use Rattle.model.specs.declared.Verdict.{Verdict}
-use Rattle.model.specs.declared.Verdict.TheVariants.{Accepted}
+use Rattle.model.specs.declared.Broken.{Broken}
 use Rattle.laws.specs.Acceptance.{Sized, TextsInside}
-use Rattle.laws.proofs.Cases.{both}
 use Rattle.laws.proofs.PartLaws.{part-whole, nodes-length, mounts-length, entries-length, text-length}
 use Rattle.laws.proofs.Acceptance.{accepted-sized, unbroken, passed, unbroken-records, texts-inside}
 use Rattle.round_trip.specs.SameTree.{without_offsets}
@@ -32,8 +32,8 @@ module _ (p : Parts) where
       → (length p.nodes ≡ 12 * (tree_in p).nodes) × (length p.mounts ≡ 8 * (tree_in p).mounts) × (length p.entries ≡ 8 * (tree_in p).entries)
   unfolding records_whole tree_in
   whole-lengths whole =
-      let b = both _ _ whole in
-      let a = both _ _ b.0 in
+      let b = and_parts _ _ whole in
+      let a = and_parts _ _ b.0 in
       (eqb-true _ _ a.0, eqb-true _ _ a.1, eqb-true _ _ b.1)
 
   parts-readable : Bytewise p → records_whole p ≡ true → Readable (tree_in p)
@@ -91,7 +91,7 @@ module _ (p : Parts) where
     later-rules small = sym (rw (image-signed (tree_in p), rule-3 small, parts-back small, moved-check (tree_in p) inside))
 
 -- a rule's silence leaves the verdict to the rules after it
-breaks-then : (rule r : ℕ) (b : Bool) (v w : Verdict) → (b ≡ true → v ≡ w) → breaks rule (unless b r) v ≡ breaks rule (unless b r) w
+breaks-then : (rule r : ℕ) (b : Bool) (v w : Result Unit Broken) → (b ≡ true → v ≡ w) → breaks rule (unless b r) v ≡ breaks rule (unless b r) w
 breaks-then rule r true v w same = same refl
 breaks-then rule r false v w same = refl
 
@@ -100,7 +100,7 @@ unfolding parts_check table_check
 verdict-is-check p bytes whole inside =
     let l = written_length (tree_in p) in
     rw (rule-1 p bytes whole inside)
-    (breaks-then 1 0 (length_fits l) _ _ (λ fits. later-rules p bytes whole inside (leb-true l 65536 (both (leb 20 l) _ fits).1)))
+    (breaks-then 1 0 (length_fits l) _ _ (λ fits. later-rules p bytes whole inside (leb-true l 65536 (and_parts (leb 20 l) _ fits).1)))
 
 -- what acceptance says of the parts
 record PartsHold (p : Parts) : Type 0 where
@@ -108,15 +108,15 @@ record PartsHold (p : Parts) : Type 0 where
   whole : records_whole p ≡ true
   inside : TextsInside (tree_in p)
 
-accepted-holds : (p : Parts) → parts_check p ≡ Accepted → PartsHold p
+accepted-holds : (p : Parts) → parts_check p ≡ Ok tt → PartsHold p
 unfolding parts_check
 accepted-holds p accepted =
     let t = tree_in p in
     let r1 = unbroken 1 (unless (length_fits (written_length t)) 0) _ accepted in
     let r3 = unbroken 3 (unless (counts_fit (written_sizes t) && records_whole p) 0) (records_check t) r1.1 in
     record {
-      short = leb-true _ _ (both (leb 20 (written_length t)) _ (passed _ 0 r1.0)).1;
-      whole = (both (counts_fit (written_sizes t)) _ (passed _ 0 r3.0)).1;
+      short = leb-true _ _ (and_parts (leb 20 (written_length t)) _ (passed _ 0 r1.0)).1;
+      whole = (and_parts (counts_fit (written_sizes t)) _ (passed _ 0 r3.0)).1;
       inside = let r = unbroken-records t r3.1 in texts-inside t r.four r.five;
     }
 

@@ -1,5 +1,5 @@
 -- Two tables hold the same tree if they differ only in where their texts lie (RULES 19.5): nothing else that a rule, a lookup or a walk reads.
-use Rattle.std.specs.Prelude.{ℕ, Bool, cond, List, [], ◌≡◌, eqb}
+use Rattle.std.specs.Prelude.{ℕ, Bool, cond, List, [], ◌≡◌, eqb, Ok}
 use Rattle.model.specs.Tree.{Tree, tree_of}
 use Rattle.model.specs.TableCheck.{table_check}
 use Rattle.model.specs.Build.{image_of}
@@ -7,7 +7,6 @@ use Rattle.model.specs.Handles.{handle_refused}
 use Rattle.model.specs.Lookup.{lookup_name}
 use Rattle.model.specs.Walk.{Request, walk_path}
 use Rattle.model.specs.Resolve.{Call, resolve}
-use Rattle.model.specs.declared.Verdict.TheVariants.{Accepted}
 use Rattle.model.specs.declared.Handle.{Handle}
 
 -- A tree without where its texts lie: the text's length, the offsets of names and bodies; and without what a record that is no symbolic link would have
@@ -49,11 +48,11 @@ HandlesAlike = (t u : Tree) → SameTree t u → (h : Handle) → handle_refused
 
 -- so two accepted images of one tree answer every call and every lookup alike
 abbrev pub AnswersAlike : Type 0
-AnswersAlike = (image image' : List ℕ) → table_check image ≡ Accepted → table_check image' ≡ Accepted → SameTree (tree_of image) (tree_of image')
+AnswersAlike = (image image' : List ℕ) → table_check image ≡ Ok tt → table_check image' ≡ Ok tt → SameTree (tree_of image) (tree_of image')
     → (call : Call) → resolve image call ≡ resolve image' call
 
 abbrev pub LookupsAlike : Type 0
-LookupsAlike = (image image' : List ℕ) → table_check image ≡ Accepted → table_check image' ≡ Accepted → SameTree (tree_of image) (tree_of image')
+LookupsAlike = (image image' : List ℕ) → table_check image ≡ Ok tt → table_check image' ≡ Ok tt → SameTree (tree_of image) (tree_of image')
     → (n : ℕ) (name : List ℕ) → lookup_name image n name ≡ lookup_name image' n name
 
 -- "so there is one image for one tree" (RULES 19.5)

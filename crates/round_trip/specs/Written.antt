@@ -1,9 +1,8 @@
 -- What is written from four parts, read again (RULES 19.11).
-use Rattle.std.specs.Prelude.{ℕ, ◌<◌, true, List, ◌≡◌, get_or}
+use Rattle.std.specs.Prelude.{ℕ, ◌<◌, true, List, ◌≡◌, get_or, Ok}
 use Rattle.model.specs.Tree.{sizes_of, nodes_part, mounts_part, entries_part, text_part, tree_of}
 use Rattle.model.specs.TableCheck.{table_check}
 use Rattle.model.specs.Build.{Parts, tree_in, records_whole, image_of, parts_check}
-use Rattle.model.specs.declared.Verdict.TheVariants.{Accepted}
 use Rattle.laws.specs.Acceptance.{TextsInside}
 use Rattle.round_trip.specs.SameTree.{SameTree}
 
@@ -19,11 +18,11 @@ VerdictIsCheck = (p : Parts) → Bytewise p → records_whole p ≡ true → Tex
 
 -- what is written is accepted
 abbrev pub WrittenAccepted : Type 0
-WrittenAccepted = (p : Parts) → Bytewise p → parts_check p ≡ Accepted → table_check (image_of (tree_in p)) ≡ Accepted
+WrittenAccepted = (p : Parts) → Bytewise p → parts_check p ≡ Ok tt → table_check (image_of (tree_in p)) ≡ Ok tt
 
 -- "Reading back gives the same tree" (RULES 19.11)
 abbrev pub ReadsBack : Type 0
-ReadsBack = (p : Parts) → Bytewise p → parts_check p ≡ Accepted → SameTree (tree_of (image_of (tree_in p))) (tree_in p)
+ReadsBack = (p : Parts) → Bytewise p → parts_check p ≡ Ok tt → SameTree (tree_of (image_of (tree_in p))) (tree_in p)
 
 -- the parts of an image, as its header cuts them
 abbrev pub parts_of : List ℕ → Parts
@@ -31,8 +30,8 @@ parts_of s = record { nodes = nodes_part (sizes_of s) s; mounts = mounts_part (s
 
 -- "writing what was read from a built image gives the same bytes" (RULES 19.11): the verdict is again accepted, and the image the same
 pub record WrittenAgain (s : List ℕ) : Type 0 where
-  pub accepted_again : parts_check (parts_of s) ≡ Accepted
+  pub accepted_again : parts_check (parts_of s) ≡ Ok tt
   pub same_bytes : image_of (tree_in (parts_of s)) ≡ s
 
 abbrev pub WritesAgain : Type 0
-WritesAgain = (p : Parts) → Bytewise p → parts_check p ≡ Accepted → WrittenAgain (image_of (tree_in p))
+WritesAgain = (p : Parts) → Bytewise p → parts_check p ≡ Ok tt → WrittenAgain (image_of (tree_in p))

@@ -1,19 +1,22 @@
 -- Slots as numbers: one number, the 64, and the lowest that is free. Assumes nothing.
+use Rattle.std.specs.Prelude.{Some}
+use Rattle.std.specs.List.{position, position_from}
+use Rattle.std.proofs.lemmas.Iterator.Adapters.{position_from-zero}
+use Rattle.model.specs.Bytes.{find}
 use Prim.Native.Nat.{ℕ, zero, suc, ◌+◌, ◌-◌, ◌*◌, ◌/◌, ◌%◌, ◌^◌, ◌≤◌, ◌<◌}
 use mathlib.Core.Bool.{Bool, true, false}
 use mathlib.Core.List.{List, [], ◌∷◌, ◌++◌, map}
-use mathlib.Core.Option.{Option, none, some}
 use mathlib.Core.Path.{◌≡◌, refl, sym, ap, ◌∙◌}
 use native.Mathlib.Omega.{arith}
-use borrow.Author.Tests.{lt-ltb, le-ltb, eq-eqb, ne_eqb}
+use native.Mathlib.Nat.{zero-add, add-zero}
+use borrow.Author.Tests.{lt-ltb, le-ltb, ne_eqb}
 use lib.Dec.{eqb}
-use lib.ListN.{length, get_or, take, drop, set, replicate, get_or-map}
+use lib.ListN.{length, get_or, take, drop, set, replicate, get_or-map, length-take}
 use lib.Seq.{get_or-take, take-set-lt}
 use Rattle.model.specs.Descriptors.{Slot, closed, holding, is_closed, handle_at, slot_at, lowest_free}
 use Rattle.model.specs.declared.Handle.{Handle}
 use Rattle.model.specs.declared.Place.{Place}
-use Rattle.laws.proofs.ByteLaws.{Finds, find-some}
-use Rattle.parts.specs.Searches.{found_or}
+use Rattle.laws.proofs.ByteLaws.{find-some}
 use Rattle.slots.specs.Slots.{handle_by, slot_by, slots_by, Fits}
 
 -- 0 is closed, and no other number
@@ -98,50 +101,31 @@ free l d = is_closed (get_or (slots_by l) d closed)
 free-tested : (l : List ℕ) (d : ℕ) → d < 64 → free l d ≡ eqb (get_or l d 0) 0
 free-tested l d h = ap is_closed (slots_get l d h) ∙ closed-tested (get_or l d 0)
 
-pub free-here : (l : List ℕ) (d : ℕ) → d < 64 → get_or l d 0 ≡ 0 → free l d ≡ true
-free-here l d h e = free-tested l d h ∙ eq-eqb (get_or l d 0) 0 e
+-- a search of a list by position is one by number
+by-position : (p : ℕ → Bool) (at : ℕ) (l : List ℕ) → ((i : ℕ) → i < length l → p (at + i) ≡ eqb (get_or l i 0) 0)
+    → position_from (λ x. eqb x 0) at l ≡ find p at (length l)
+unfolding find
+by-position p at [] same = refl
+by-position p at (x ∷ l) same =
+    let here : p at ≡ eqb x 0 = ap p (sym (add-zero at)) ∙ same 0 (omega arith) in
+    let later : position_from (λ x. eqb x 0) (at + 1) l ≡ find p (at + 1) (length l) =
+    by-position p (at + 1) l (λ i h. ap p (omega arith) ∙ same (suc i) (omega arith)) in
+    let next : suc at ≡ at + 1 = omega arith in
+    rw (here, next, later)
 
-pub free-not : (l : List ℕ) (d : ℕ) → d < 64 → (get_or l d 0 ≡ 0 → ⊥) → free l d ≡ false
-free-not l d h ne = free-tested l d h ∙ ne_eqb (get_or l d 0) 0 ne
-
-pub free-start : (l : List ℕ) → Finds (free l) 64 (lowest_free (slots_by l)) 0
+pub free_first : (l : List ℕ) → 64 ≤ length l → position (λ x. eqb x 0) (take 64 l) ≡ lowest_free (slots_by l)
 unfolding lowest_free
-free-start l = record { from-here = refl }
+free_first l room =
+    let all : length (take 64 l) ≡ 64 = length-take 64 l ∙ omega arith in
+    position_from-zero (λ x. eqb x 0) (take 64 l)
+    ∙ by-position (free l) 0 (take 64 l) (λ i h. ap (free l) (zero-add i) ∙ free-tested l i (omega (arith, all)) ∙ ap (λ x. eqb x 0) (sym (get_or-take 64 l i 0 (omega (arith, all)))))
+    ∙ ap (find (free l) 0) all
 
-pub free-below : (l : List ℕ) (d : ℕ) → lowest_free (slots_by l) ≡ some d → d < 64
+pub free-below : (l : List ℕ) (d : ℕ) → lowest_free (slots_by l) ≡ Some d → d < 64
 unfolding lowest_free
 free-below l d e = omega (arith, (find-some (free l) 0 64 d e).below)
 
--- the number that the search gives, and what it says: the lowest that is free, or that none is
-pub free-found : (l : List ℕ) {n : ℕ} → n ≡ found_or 64 (lowest_free (slots_by l)) → n < 64 → lowest_free (slots_by l) ≡ some n
-free-found l {n} is below = by (lowest_free (slots_by l)) refl
-  where
-    by : (o : Option ℕ) → lowest_free (slots_by l) ≡ o → lowest_free (slots_by l) ≡ some n
-    by none e = let full : n ≡ 64 = is ∙ ap (found_or 64) e in absurd (omega arith)
-    by (some k) e = let same : n ≡ k = is ∙ ap (found_or 64) e in e ∙ ap some (sym same)
-
-pub free-none : (l : List ℕ) {n : ℕ} → n ≡ found_or 64 (lowest_free (slots_by l)) → 64 ≤ n → lowest_free (slots_by l) ≡ none
-free-none l {n} is above = by (lowest_free (slots_by l)) refl
-  where
-    by : (o : Option ℕ) → lowest_free (slots_by l) ≡ o → lowest_free (slots_by l) ≡ none
-    by none e = e
-    by (some k) e = let same : n ≡ k = is ∙ ap (found_or 64) e in absurd (omega (arith, same, free-below l k e))
-
 -- all closed
-abbrev pub shut_to : ℕ → List ℕ → List ℕ
-shut_to d l = replicate d 0 ++ drop d l
-
-shut-next : (d : ℕ) (l : List ℕ) → d < length l → set (shut_to d l) d 0 ≡ shut_to (suc d) l
-shut-next zero (x ∷ l) h = refl
-shut-next zero [] h = absurd (omega arith)
-shut-next (suc d) [] h = absurd (omega arith)
-shut-next (suc d) (x ∷ l) h = ap (λ m. 0 ∷ m) (shut-next d l (omega arith))
-
-pub shut_one : (l : List ℕ) (d : ℕ) {after : List ℕ} → after ≡ shut_to d l → d < length l → set after d 0 ≡ shut_to (d + 1) l
-shut_one l d is h =
-    let next : suc d ≡ d + 1 = omega arith in
-    ap (λ (m : List ℕ). set m d 0) is ∙ shut-next d l h ∙ ap (λ (k : ℕ). shut_to k l) next
-
 pub all_closed : (l : List ℕ) → slots_by (replicate 64 0 ++ drop 64 l) ≡ replicate 64 closed
 unfolding slots_by slot_by
 all_closed l = refl

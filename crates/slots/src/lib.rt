@@ -3,7 +3,6 @@
 
 ghost use Rattle.std.specs.Prelude.{◌++◌, ◌≡◌, ◌≤◌, ◌<◌, length, drop, replicate};
 ghost use Rattle.model.specs.Descriptors.{holding, handle_at, slot_at, lowest_free};
-ghost use Rattle.parts.specs.Searches.{found_or};
 ghost use Rattle.slots.specs.Slots.{slot_by, slots_by, Fits};
 
 use model::{Handle, Place};
@@ -11,7 +10,7 @@ use model::{Handle, Place};
 // The descriptors of a table.
 pub const DESCRIPTORS: usize = 64;
 
-// A closed slot's number.
+// A closed slot's number. A number, and no Option: the 64 are lent through the C interface.
 pub const CLOSED: u64 = 0;
 
 const MOUNT: usize = 4294967296;
@@ -54,19 +53,12 @@ pub fn slot_at(slots: &[u64], d: usize) -> u64
     slots[d]
 }
 
-// The lowest descriptor that is free; 64 if none is.
-pub fn lowest_free(slots: &[u64]) -> usize
+// The lowest descriptor that is free, if one is.
+pub fn lowest_free(slots: &[u64]) -> Option<usize>
     requires { 64 ≤ length slots.now }
-    ensures { result ≡ found_or 64 (lowest_free (slots_by slots.now)) }
+    ensures { result ≡ lowest_free (slots_by slots.now) }
 {
-    let mut d = 0;
-    while d < DESCRIPTORS {
-        if slots[d] == CLOSED {
-            return d;
-        }
-        d += 1;
-    }
-    DESCRIPTORS
+    slots[..DESCRIPTORS].iter().position(|x| *x == CLOSED)
 }
 
 // All descriptors closed.
@@ -74,9 +66,5 @@ pub fn close_all(slots: &mut [u64])
     requires { 64 ≤ length slots.old }
     ensures { slots.new ≡ replicate 64 0 ++ drop 64 slots.old }
 {
-    let mut d = 0;
-    while d < DESCRIPTORS {
-        slots[d] = CLOSED;
-        d += 1;
-    }
+    slots[..DESCRIPTORS].fill(CLOSED);
 }

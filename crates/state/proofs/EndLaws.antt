@@ -35,29 +35,17 @@ module _ (a : Request) (s : State) {kind : ℕ} (kind-is : kind ≡ a.tree.kind 
     unfolding finish
     required-other n = rw (required, not-directory a.tree s.place.node (λ e. n (kind-is ∙ e))) is
 
-    pub required-file : kind ≡ 2 → r ≡ finish a s
-    required-file e = required-other (λ h. omega arith)
-
   module _ (unrequired : s.directory ≡ false) where
     -- neither a directory nor a link
-    other : (kind ≡ 3 → ⊥) → (kind ≡ 4 → ⊥) → Ends
+    pub end-other : (kind ≡ 3 → ⊥) → (kind ≡ 4 → ⊥) → Ends
     unfolding finish is_link
-    other l m =
+    end-other l m =
         rw (unrequired, ne_eqb (a.tree.kind s.place.node) 3 (λ e. l (kind-is ∙ e)), ne_eqb (a.tree.kind s.place.node) 4 (λ e. m (kind-is ∙ e)))
-
-    pub end-file : kind ≡ 2 → Ends
-    end-file e = other (λ h. omega arith) (λ h. omega arith)
-
-    pub end_below : kind < 1 → Ends
-    end_below e = other (λ h. omega arith) (λ h. omega arith)
-
-    pub end-above : 4 < kind → Ends
-    end-above e = other (λ h. omega arith) (λ h. omega arith)
 
     pub end-link-path : a.path_only ≡ true → Ends
     unfolding finish
     end-link-path o = rw (unrequired, o, and-false (is_link a.tree s.place.node))
 
-    pub end-link : {r : Answer} → (kind ≡ 1 → ⊥) → (kind ≡ 2 → ⊥) → 1 ≤ kind → kind < 5 → a.path_only ≡ false → r ≡ refused Eloop s.progress → r ≡ finish a s
+    pub end-link : {r : Answer} → 3 ≤ kind → kind < 5 → a.path_only ≡ false → r ≡ refused Eloop s.progress → r ≡ finish a s
     unfolding finish is_link
-    end-link one two low high o is = rw (unrequired, three-or-four (a.tree.kind s.place.node) (omega arith) (omega arith), o) is
+    end-link low high o is = rw (unrequired, three-or-four (a.tree.kind s.place.node) (omega arith) (omega arith), o) is

@@ -12,30 +12,36 @@ use Rattle.model.specs.Bytes.{field}
 use Rattle.laws.proofs.Cases.{cond_cases}
 use Rattle.byte_blocks.specs.Blocks.{big_endian, SameTo, Deciding, first_differing}
 use Rattle.byte_blocks.proofs.BlockLaws.{Bytes, first-here, first-later, told-apart}
-use Rattle.string_order.specs.declared.Order.{Order}
+use Rattle.std.proofs.lemmas.Bool.Decides.{nat_tests}
+use Rattle.std.specs.Ordering.{nat_cmp}
+use Rattle.std.specs.declared.cmp.Ordering.{Ordering}
 use Rattle.string_order.specs.Orders.{order_of, ordered}
 use Rattle.string_order.specs.Starts.{shorter_of, alike_blocks}
 use Rattle.string_order.proofs.DecidingLaws.{Shorter, one-ends, before-big, before-begun, same-begun, deciding-all}
 
+-- what `cmp` returns for two numbers
+pub cmp-order : (p q : ℕ) {r : Ordering} → r ≡ nat_cmp p q → r ≡ order_of p q
+cmp-order p q e = grind (arith, nat_tests)
+
 -- What the code answers is the strings' order: by the first block that differs, as a number,
 pub ordered-other : (width : ℕ) (s t : List ℕ) → Bytes s → Bytes t → (at : ℕ) → SameTo s t at
     → {p q : ℕ} → p ≡ big_endian width s at → q ≡ big_endian width t at → at + width ≤ length s → at + width ≤ length t → (p ≡ q → ⊥)
-    → {r : Order} → r ≡ order_of p q → r ≡ ordered s t
+    → {r : Ordering} → r ≡ order_of p q → r ≡ ordered s t
 ordered-other width s t hs ht at known {p} {q} ep eq ls lt other f =
     let apart = told-apart (λ (u : List ℕ). big_endian width u at) s t (λ e. other (ep ∙ e ∙ sym eq)) in
     f ∙ rw (ne_eqb p q other, apart, before-big width s t hs ht at known ep eq ls lt other)
 
 -- by the lengths, where the shorter string begins the longer one,
-pub ordered-begun : (s t : List ℕ) (n : ℕ) → SameTo s t n → Shorter s t n → {r : Order} → r ≡ order_of (length s) (length t) → r ≡ ordered s t
+pub ordered-begun : (s t : List ℕ) (n : ℕ) → SameTo s t n → Shorter s t n → {r : Ordering} → r ≡ order_of (length s) (length t) → r ≡ ordered s t
 ordered-begun s t n known short f = f ∙ rw (same-begun s t n known short, before-begun s t n known short)
 
 -- and by either, as the block that decides has it.
 pub deciding-ordered : {width : ℕ} {s t : List ℕ} {last at : ℕ} → Deciding width s t last at → Bytes s → Bytes t
     → {p q : ℕ} → p ≡ big_endian width s at → q ≡ big_endian width t at → {n : ℕ} → last + width ≡ n → Shorter s t n
-    → {r : Order} → r ≡ cond (eqb p q) (order_of (length s) (length t)) (order_of p q) → r ≡ ordered s t
+    → {r : Ordering} → r ≡ cond (eqb p q) (order_of (length s) (length t)) (order_of p q) → r ≡ ordered s t
 deciding-ordered {width} {s} {t} {last} {at} block hs ht {p} {q} ep eq {n} ends short f =
     f
-    ∙ cond_cases (λ (o : Order). o ≡ ordered s t) (eqb p q) (order_of (length s) (length t)) (order_of p q)
+    ∙ cond_cases (λ (o : Ordering). o ≡ ordered s t) (eqb p q) (order_of (length s) (length t)) (order_of p q)
     (λ e. ordered-begun s t n (deciding-all block hs ht ep eq ends short (eqb-true p q e)) short refl)
     (λ e.
     ordered-other width s t hs ht at block.alike ep eq (omega (arith, block.within, short.0)) (omega (arith, block.within, short.1))
@@ -76,9 +82,9 @@ module _ {s t : List ℕ} {n at k : ℕ} (loop : Common s t n at k) where
     pub common-here : (x ≡ y → ⊥) → at ≡ alike_blocks s t
     common-here other = sym (loop.from-here ∙ rw left (first-here 8 (n - (k + 1)) s t at ex ey other))
 
-    pub common-on : x ≡ y → Common s t n (at + 8) (k + 1)
-    common-on e = record {
+    pub common-on : x ≡ y → {next : ℕ} → next ≡ at + 8 → Common s t n next (k + 1)
+    common-on e {next} f = record {
       within = omega arith;
-      there = omega (arith, loop.there);
-      from-here = loop.from-here ∙ rw left (first-later 8 (n - (k + 1)) s t at ex ey e (at + 8) refl);
+      there = omega (arith, loop.there, f);
+      from-here = loop.from-here ∙ rw left (first-later 8 (n - (k + 1)) s t at ex ey e next (sym f));
     }

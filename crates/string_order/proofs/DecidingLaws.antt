@@ -1,5 +1,5 @@
 -- Laws of the order of two strings by the block that decides, each over the block's width. Assumes nothing.
-use Prim.Native.Nat.{ℕ, zero, suc, ◌+◌, ◌≤◌, ◌<◌}
+use Prim.Native.Nat.{ℕ, zero, suc, ◌+◌, min, ◌≤◌, ◌<◌}
 use mathlib.Core.Bool.{Bool, true, false}
 use mathlib.Core.List.{List, [], ◌∷◌}
 use mathlib.Core.Logic.{◌⊎◌, inl, inr, ⊎_elim}
@@ -18,6 +18,9 @@ use Rattle.byte_blocks.proofs.BlockLaws.{Alike, Bytes, same-all, to-the-last}
 -- what the code has of the shorter of two lengths
 abbrev pub Shorter : List ℕ → List ℕ → ℕ → Type 0
 Shorter s t n = (n ≤ length s) × (n ≤ length t) × (n < length s → length t ≡ n)
+
+pub min-shorter : (s t : List ℕ) {n : ℕ} → n ≡ min (length s) (length t) → Shorter s t n
+min-shorter s t e = omega arith
 
 module _ (s t : List ℕ) (hs : Bytes s) (ht : Bytes t) where
   big-same : (width at : ℕ) → big_endian width s at ≡ big_endian width t at → Alike s t at width

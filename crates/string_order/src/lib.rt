@@ -8,37 +8,28 @@ ghost use Rattle.string_order.specs.Starts.{alike_blocks};
 
 use byte_blocks::{big32_at, big64_at, deciding, deciding_eight, deciding_four};
 use fields::u64_at;
+use std::cmp::Ordering;
 
 // Byte by byte, for the shortest.
 fn before_bytes(a: &[u8], b: &[u8]) -> bool
     ensures { result ≡ before a.now b.now }
 {
-    let mut i = 0;
-    while i < a.len() {
+    let n = a.len();
+    for i in 0..n {
         if b.len() <= i {
             return false;
         }
         if a[i] != b[i] {
             return a[i] < b[i];
         }
-        i += 1;
     }
-    i < b.len()
-}
-
-fn shorter(m: usize, n: usize) -> usize
-    ensures { (result ≤ m) × (result ≤ n) × (result < m → n ≡ result) }
-{
-    if m < n {
-        return m;
-    }
-    n
+    n < b.len()
 }
 
 pub fn comes_before(a: &[u8], b: &[u8]) -> bool
     ensures { result ≡ before a.now b.now }
 {
-    let n = shorter(a.len(), b.len());
+    let n = a.len().min(b.len());
     if n < 4 {
         return before_bytes(a, b);
     }
@@ -51,56 +42,35 @@ pub fn comes_before(a: &[u8], b: &[u8]) -> bool
     a.len() < b.len()
 }
 
-// How two strings stand in the bytewise order.
-#[derive(Clone, Copy)]
-pub enum Order {
-    Before,
-    Same,
-    After,
-}
-
-fn number_order(p: u64, q: u64) -> Order
-    ensures { result ≡ order_of p q }
-{
-    if p == q {
-        return Order::Same;
-    }
-    if p < q {
-        return Order::Before;
-    }
-    Order::After
-}
-
 // By the block that decides, and by the lengths where it is the same in both.
-fn block_order(p: u64, q: u64, m: usize, n: usize) -> Order
+fn block_order(p: u64, q: u64, m: usize, n: usize) -> Ordering
     ensures { result ≡ cond (eqb p q) (order_of m n) (order_of p q) }
 {
+    // A `then_with` costs some ten instructions more: it makes the first order before it tests it.
     if p == q {
-        return number_order(m as u64, n as u64);
+        return m.cmp(&n);
     }
-    number_order(p, q)
+    p.cmp(&q)
 }
 
 // Byte by byte, for the shortest.
-fn compare_bytes(a: &[u8], b: &[u8]) -> Order
+fn compare_bytes(a: &[u8], b: &[u8]) -> Ordering
     ensures { result ≡ ordered a.now b.now }
 {
-    let n = shorter(a.len(), b.len());
-    let mut i = 0;
-    while i < n {
+    let n = a.len().min(b.len());
+    for i in 0..n {
         if a[i] != b[i] {
-            return number_order(a[i] as u64, b[i] as u64);
+            return a[i].cmp(&b[i]);
         }
-        i += 1;
     }
-    number_order(a.len() as u64, b.len() as u64)
+    a.len().cmp(&b.len())
 }
 
 // Which of two strings comes first, or that they are the same: for a search, which goes on by the answer.
-pub fn compare(a: &[u8], b: &[u8]) -> Order
+pub fn compare(a: &[u8], b: &[u8]) -> Ordering
     ensures { result ≡ ordered a.now b.now }
 {
-    let n = shorter(a.len(), b.len());
+    let n = a.len().min(b.len());
     if n < 4 {
         return compare_bytes(a, b);
     }
@@ -116,15 +86,11 @@ pub fn compare(a: &[u8], b: &[u8]) -> Order
 pub fn alike(a: &[u8], b: &[u8]) -> usize
     ensures { result ≡ alike_blocks a.now b.now }
 {
-    let n = shorter(a.len(), b.len()) / 8;
-    let mut i = 0;
-    let mut k = 0;
-    while k < n {
-        if u64_at(a, i) != u64_at(b, i) {
-            return i;
+    let n = a.len().min(b.len()) / 8;
+    for k in 0..n {
+        if u64_at(a, 8 * k) != u64_at(b, 8 * k) {
+            return 8 * k;
         }
-        i += 8;
-        k += 1;
     }
-    i
+    8 * n
 }

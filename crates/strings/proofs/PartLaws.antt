@@ -1,12 +1,19 @@
 -- A byte that does not stand in a string stands in no part of it. Assumes nothing.
 use Prim.Native.Nat.{ℕ, zero, suc}
-use mathlib.Core.Bool.{false}
+use mathlib.Core.Bool.{Bool, false, ◌||◌}
 use mathlib.Core.List.{List, [], ◌∷◌}
-use mathlib.Core.Path.{◌≡◌, refl}
+use mathlib.Core.Path.{◌≡◌, refl, ap}
 use lib.Dec.{eqb}
 use lib.ListN.{take, drop}
+use Rattle.std.specs.List.{list_any}
 use Rattle.model.specs.Bytes.{part, contains}
 use Rattle.laws.proofs.Cases.{neither}
+
+-- what the library's search for a byte tells
+pub any_contains : (b : ℕ) (s : List ℕ) → list_any (λ x. eqb x b) s ≡ contains b s
+unfolding contains
+any_contains b [] = refl
+any_contains b (x ∷ s) = ap (λ (r : Bool). eqb x b || r) (any_contains b s)
 
 not-in-drop : (b n : ℕ) (s : List ℕ) → contains b s ≡ false → contains b (drop n s) ≡ false
 unfolding contains

@@ -9,11 +9,10 @@ ghost use Rattle.parts.specs.Parts.{parts_tree, NodeRecords, MountRecords, Entry
 ghost use Rattle.image.specs.Counts.{counts_of};
 
 use fields::{u16_at, u32_at};
+use image::Image;
 use image::records::{read_counts, text_length};
-use image::slices::{entries, mounts, nodes};
-use model::Verdict;
+use model::Broken;
 use parts::records::Counts;
-use parts::search::Search;
 use strings::same;
 use table_entries::first_bad_entry;
 use table_mounts::first_bad_mount;
@@ -35,26 +34,14 @@ fn is_signed(image: &[u8]) -> bool
     requires { 20 ≤ length image.now }
     ensures { result ≡ same_bytes (take 4 image.now) (ascii "TOC1") && eqb (field 2 image.now 10) 0 }
 {
-    if !same(&image[..4], b"TOC1") {
-        return false;
-    }
-    u16_at(image, 10) == 0
+    same(&image[..4], b"TOC1") && u16_at(image, 10) == 0
 }
 
 // Rule 3's counts.
 pub fn counts_fit(c: Counts) -> bool
     ensures { (text : ℕ) → result ≡ counts_fit (record { nodes = c.nodes; mounts = c.mounts; entries = c.entries; text = text }) }
 {
-    if c.nodes == 0 {
-        return false;
-    }
-    if MOST_NODES < c.nodes {
-        return false;
-    }
-    if c.mounts == 0 {
-        return false;
-    }
-    if MOST_MOUNTS < c.mounts {
+    if c.nodes == 0 || MOST_NODES < c.nodes || c.mounts == 0 || MOST_MOUNTS < c.mounts {
         return false;
     }
     c.entries <= MOST_ENTRIES
@@ -70,59 +57,59 @@ fn sizes_fit(image: &[u8], c: Counts, text: usize) -> bool
         return false;
     }
     let whole = 20 + 12 * c.nodes + 8 * c.mounts + 8 * c.entries + text;
-    if u32_at(image, 16) != whole {
-        return false;
-    }
-    image.len() == whole
+    u32_at(image, 16) == whole && image.len() == whole
 }
 
 // Rules 4 to 7 on four parts, each on what the ones before it have seen.
-pub fn check_records(nodes: &[u8], mounts: &[u8], entries: &[u8], text: &[u8], c: Counts) -> Verdict
+pub fn check_records(
+    nodes: &[u8],
+    mounts: &[u8],
+    entries: &[u8],
+    text: &[u8],
+    c: Counts,
+) -> Result<(), Broken>
     requires { NodeRecords c nodes.now × MountRecords c mounts.now × EntryRecords c entries.now }
     ensures { result ≡ records_check (parts_tree c nodes.now mounts.now entries.now text.now) }
 {
-    let node = first_bad_node(nodes, text, c);
-    if let Search::At(n) = node {
-        return Verdict::Broken { rule: 4, record: n };
+    if let Some(record) = first_bad_node(nodes, text, c) {
+        return Err(Broken { rule: 4, record });
     }
-    let entry = first_bad_entry(nodes, entries, text, c);
-    if let Search::At(e) = entry {
-        return Verdict::Broken { rule: 5, record: e };
+    if let Some(record) = first_bad_entry(nodes, entries, text, c) {
+        return Err(Broken { rule: 5, record });
     }
-    let mount = first_bad_mount(nodes, mounts, c);
-    if let Search::At(m) = mount {
-        return Verdict::Broken { rule: 6, record: m };
+    if let Some(record) = first_bad_mount(nodes, mounts, c) {
+        return Err(Broken { rule: 6, record });
     }
-    let target = first_bad_target(nodes, mounts, c);
-    if let Search::At(n) = target {
-        return Verdict::Broken { rule: 7, record: n };
+    if let Some(record) = first_bad_target(nodes, mounts, c) {
+        return Err(Broken { rule: 7, record });
     }
-    Verdict::Accepted
+    Ok(())
 }
 
 // The image stays as it was.
-pub fn check(image: &[u8]) -> Verdict
+pub fn check(image: &[u8]) -> Result<(), Broken>
     ensures { (result ≡ table_check image.now) × (image.exit.now ≡ image.entry.now) }
 {
-    if image.len() < 20 {
-        return Verdict::Broken { rule: 1, record: 0 };
-    }
-    if MOST_IMAGE < image.len() {
-        return Verdict::Broken { rule: 1, record: 0 };
+    if image.len() < 20 || MOST_IMAGE < image.len() {
+        return Err(Broken { rule: 1, record: 0 });
     }
     if !is_signed(image) {
-        return Verdict::Broken { rule: 2, record: 0 };
+        return Err(Broken { rule: 2, record: 0 });
     }
     let c = read_counts(image);
     let text = text_length(image);
     if !sizes_fit(image, c, text) {
-        return Verdict::Broken { rule: 3, record: 0 };
+        return Err(Broken { rule: 3, record: 0 });
     }
+    let table = Image {
+        bytes: image,
+        counts: c,
+    };
     check_records(
-        nodes(image),
-        mounts(image, c),
-        entries(image, c),
-        image::slices::text(image, c),
+        table.nodes(),
+        table.mounts(),
+        table.entries(),
+        table.text(),
         c,
     )
 }

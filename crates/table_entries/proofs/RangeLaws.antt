@@ -1,9 +1,9 @@
 -- Rule 5 over the directories, one node after the other, and what an entry's sentences come to where its directory is known.
 -- Assumes nothing.
+use Rattle.std.specs.Prelude.{Option, None, Some}
 use Prim.Native.Nat.{ℕ, ◌+◌, ◌-◌, ◌≤◌, ◌<◌}
 use mathlib.Core.Bool.{Bool, true, false, cond, not, ◌&&◌, and-false}
 use mathlib.Core.List.{List}
-use mathlib.Core.Option.{Option, none, some}
 use mathlib.Core.Path.{◌≡◌, refl, sym, ap, ◌∙◌}
 use native.Mathlib.Nat.{le_of_eq}
 use native.Mathlib.Numerals.{add-one}
@@ -21,10 +21,6 @@ use Rattle.laws.proofs.Cases.{both}
 use Rattle.laws.proofs.EntryLaws.{is-directory, first-ascends, later-ascends}
 use Rattle.parts.specs.Parts.{entries_tree, EntryRecords}
 use Rattle.parts.specs.declared.records.Counts.{Counts}
-use Rattle.parts.specs.declared.search.Search.{Search}
-use Rattle.parts.specs.declared.search.Search.TheVariants.{At, Nowhere}
-use Rattle.parts.specs.Searches.{search_of}
-use Rattle.parts.proofs.SearchLaws.{search-at, search-nowhere}
 use Rattle.table_entries.specs.Given.{Named}
 use Rattle.table_entries.specs.Ranges.{bad_in, bad_of, ascends_from, ends_entries}
 
@@ -62,7 +58,7 @@ unfolding counts_before sum_below
 counts-suc t n = rw (add-one n)
 
 -- a node that is no directory has no entries
-pub other-bad : (t : Tree) (n : ℕ) → (t.kind n ≡ 1 → ⊥) → bad_of t n ≡ none
+pub other-bad : (t : Tree) (n : ℕ) → (t.kind n ≡ 1 → ⊥) → bad_of t n ≡ None
 unfolding directory_count find
 other-bad t n k = rw (ne_eqb (t.kind n) 1 k)
 
@@ -85,36 +81,34 @@ module _ (t : Tree) (directories : DirectoriesHold t) where
       ∙ ap (λ (k : ℕ). or_else (bad_of t n) (bad_in t k rest)) (sym (counts-suc t n))
 
 -- A loop over the nodes stands at n: the lowest bad entry is the lowest from the entries of n on.
-pub record BadFrom (t : Tree) (end n : ℕ) : Type 0 where
-  pub ends : end ≡ t.nodes
-  pub within : n ≤ end
+pub record BadFrom (t : Tree) (n : ℕ) : Type 0 where
+  pub within : n ≤ t.nodes
   pub from-here : rule5 t ≡ bad_from t n
 
-pub bad-start : (t : Tree) → BadFrom t t.nodes 0
+pub bad-start : (t : Tree) → BadFrom t 0
 unfolding rule5 first_failing counts_before sum_below
-bad-start t = let e : t.entries - 0 ≡ t.entries = omega arith in record { ends = refl; within = omega arith; from-here = rw e }
+bad-start t = let e : t.entries - 0 ≡ t.entries = omega arith in record { within = omega arith; from-here = rw e }
 
-module _ {t : Tree} {end n : ℕ} (directories : DirectoriesHold t) (loop : BadFrom t end n) where
-  none_left : counts_before t n ≡ t.entries → Nowhere ≡ search_of (rule5 t)
-  none_left e = sym (ap search_of (loop.from-here ∙ find-done (λ k. not (entry_holds t k)) (counts_before t n) t.entries (le_of_eq (sym e))))
+module _ {t : Tree} {n : ℕ} (directories : DirectoriesHold t) (loop : BadFrom t n) where
+  none_left : counts_before t n ≡ t.entries → None ≡ rule5 t
+  none_left e = sym (loop.from-here ∙ find-done (λ k. not (entry_holds t k)) (counts_before t n) t.entries (le_of_eq (sym e)))
 
-  pub bad-none : end ≤ n → Nowhere ≡ search_of (rule5 t)
+  pub bad-none : t.nodes ≤ n → None ≡ rule5 t
   bad-none h =
-      let e : n ≡ t.nodes = omega (arith, loop.ends, loop.within) in
+      let e : n ≡ t.nodes = omega (arith, loop.within) in
       none_left (ap (counts_before t) e ∙ directories.counts_sum)
 
   -- by what was found among the node's entries
-  module _ {found : Search} (h : n < end) (is : found ≡ search_of (bad_of t n)) where
-    pub bad-here : {e : ℕ} → found ≡ At e → At e ≡ search_of (rule5 t)
+  module _ {found : Option ℕ} (h : n < t.nodes) (is : found ≡ bad_of t n) where
+    pub bad-here : {e : ℕ} → found ≡ Some e → Some e ≡ rule5 t
     bad-here {e} f =
-        let r : rule5 t ≡ some e = loop.from-here ∙ node-step t directories n (omega (arith, loop.ends)) ∙ rw (search-at (bad_of t n) e (sym is ∙ f)) in
-        sym (ap search_of r)
+        let r : rule5 t ≡ Some e = loop.from-here ∙ node-step t directories n h ∙ rw (sym is ∙ f) in
+        sym r
 
-    pub bad-on : found ≡ Nowhere → BadFrom t end (n + 1)
+    pub bad-on : found ≡ None → BadFrom t (n + 1)
     bad-on f = record {
-      ends = loop.ends;
       within = omega arith;
-      from-here = loop.from-here ∙ node-step t directories n (omega (arith, loop.ends)) ∙ rw (search-nowhere (bad_of t n) (sym is ∙ f));
+      from-here = loop.from-here ∙ node-step t directories n h ∙ rw (sym is ∙ f);
     }
 
 -- the same of parts, as the code reads them
@@ -146,8 +140,8 @@ module _ (c : Counts) (nodes entries text : List ℕ) where
         ap (counts_before t) (add-one n) ∙ omega (arith, counts-next t directories n k, first-sum t directories n (is-directory t n h k), l)
 
     -- so no entry is left after it
-    pub bad-ended : {end n : ℕ} {found : Search} {ended : Bool} → let t = entries_tree c nodes entries text in
-        BadFrom t end n → n < end → found ≡ search_of (bad_of t n) → found ≡ Nowhere → ended ≡ ends_entries c nodes n → ended ≡ true
-        → Nowhere ≡ search_of (rule5 t)
+    pub bad-ended : {n : ℕ} {found : Option ℕ} {ended : Bool} → let t = entries_tree c nodes entries text in
+        BadFrom t n → n < c.nodes → found ≡ bad_of t n → found ≡ None → ended ≡ ends_entries c nodes n → ended ≡ true
+        → None ≡ rule5 t
     bad-ended {n = n} loop h is f e g =
-        none_left directories (bad-on directories loop h is f) (ends-counts n (omega (arith, loop.ends)) (sym e ∙ g))
+        none_left directories (bad-on directories loop h is f) (ends-counts n h (sym e ∙ g))

@@ -1,6 +1,5 @@
 -- The lowest entry that breaks rule 5 in a range of entries, and in a node's; and the rule's order within a range.
-use Rattle.std.specs.Prelude.{ℕ, ◌+◌, ◌-◌, Bool, true, cond, not, ◌&&◌, List, eqb, ltb}
-use mathlib.Core.Option.{Option}
+use Rattle.std.specs.Prelude.{ℕ, ◌+◌, ◌-◌, Bool, true, cond, not, ◌&&◌, List, eqb, ltb, Option}
 use Rattle.model.specs.Bytes.{before, find}
 use Rattle.model.specs.Tree.{Tree, kind_in, first_in, count_in, name_in}
 use Rattle.model.specs.TableCheck.{counts_before, directory_count, entry_holds}

@@ -9,14 +9,12 @@ ghost use Rattle.model.specs.Tree.{is_directory, first_in, count_in, entry_node_
 ghost use Rattle.model.specs.TableCheck.{name_holds, stands_in_parent, entry_holds, rule5};
 ghost use Rattle.laws.specs.Held.{Held};
 ghost use Rattle.parts.specs.Parts.{entries_tree, NodeRecords};
-ghost use Rattle.parts.specs.Searches.{search_of};
 ghost use Rattle.table_entries.specs.Given.{Given, Named};
 ghost use Rattle.table_entries.specs.Ranges.{bad_in, bad_of, ascends_from, ends_entries};
 ghost use Rattle.table_texts.specs.Barred.{sure_records};
 
 use crate::names::name_holds;
 use parts::records::{Counts, entry_node, node_count, node_first, node_kind, node_parent};
-use parts::search::Search;
 use parts::texts::name;
 use string_order::comes_before;
 use table_texts::sure_records;
@@ -26,10 +24,7 @@ fn entry_ascends(entries: &[u8], text: &[u8], first: usize, e: usize) -> bool
     requires { Named entries.now text.now e × (first < e → Named entries.now text.now (e - 1)) }
     ensures { result ≡ ascends_from entries.now text.now first e }
 {
-    if e <= first {
-        return true;
-    }
-    comes_before(name(entries, text, e - 1), name(entries, text, e))
+    e <= first || comes_before(name(entries, text, e - 1), name(entries, text, e))
 }
 
 // An entry that names a directory stands in its parent, with a higher number. `n` is the directory that holds the entry.
@@ -42,10 +37,7 @@ fn stands_in_parent(nodes: &[u8], entries: &[u8], c: Counts, n: usize, e: usize)
         return true;
     }
     let parent = node_parent(nodes, node);
-    if parent != n {
-        return false;
-    }
-    parent < node
+    parent == n && parent < node
 }
 
 fn entry_holds(
@@ -63,14 +55,10 @@ fn entry_holds(
         × (sure ≡ sure_records true entries.now text.now c.entries) }
     ensures { result ≡ entry_holds (entries_tree c nodes.now entries.now text.now) e }
 {
-    if !name_holds(entries, text, c, e, sure) {
-        return false;
-    }
-    let node = entry_node(entries, e);
-    if c.nodes <= node {
-        return false;
-    }
-    if !entry_ascends(entries, text, first, e) {
+    if !name_holds(entries, text, c, e, sure)
+        || c.nodes <= entry_node(entries, e)
+        || !entry_ascends(entries, text, first, e)
+    {
         return false;
     }
     stands_in_parent(nodes, entries, c, n, e)
@@ -83,22 +71,20 @@ fn bad_in_directory(
     c: Counts,
     n: usize,
     sure: usize,
-) -> Search
+) -> Option<usize>
     requires { Given c nodes.now entries.now text.now × (is_directory (entries_tree c nodes.now entries.now text.now) n ≡ true)
         × (sure ≡ sure_records true entries.now text.now c.entries) }
-    ensures { result ≡ search_of (bad_in (entries_tree c nodes.now entries.now text.now)
-        (first_in nodes.now n) (count_in nodes.now n)) }
+    ensures { result ≡ bad_in (entries_tree c nodes.now entries.now text.now)
+        (first_in nodes.now n) (count_in nodes.now n) }
 {
     let first = node_first(nodes, n);
     let end = first + node_count(nodes, n);
-    let mut e = first;
-    while e < end {
+    for e in first..end {
         if !entry_holds(nodes, entries, text, c, n, first, e, sure) {
-            return Search::At(e);
+            return Some(e);
         }
-        e += 1;
     }
-    Search::Nowhere
+    None
 }
 
 fn bad_in_node(
@@ -108,12 +94,12 @@ fn bad_in_node(
     c: Counts,
     n: usize,
     sure: usize,
-) -> Search
+) -> Option<usize>
     requires { Given c nodes.now entries.now text.now × (n < c.nodes) × (sure ≡ sure_records true entries.now text.now c.entries) }
-    ensures { result ≡ search_of (bad_of (entries_tree c nodes.now entries.now text.now) n) }
+    ensures { result ≡ bad_of (entries_tree c nodes.now entries.now text.now) n }
 {
     if node_kind(nodes, n) != 1 {
-        return Search::Nowhere;
+        return None;
     }
     bad_in_directory(nodes, entries, text, c, n, sure)
 }
@@ -123,37 +109,30 @@ fn ends_entries(nodes: &[u8], c: Counts, n: usize) -> bool
     requires { NodeRecords c nodes.now × (n < c.nodes) }
     ensures { result ≡ ends_entries c nodes.now n }
 {
-    if node_kind(nodes, n) != 1 {
-        return false;
-    }
-    node_first(nodes, n) + node_count(nodes, n) == c.entries
+    node_kind(nodes, n) == 1 && node_first(nodes, n) + node_count(nodes, n) == c.entries
 }
 
-fn bad_entry(nodes: &[u8], entries: &[u8], text: &[u8], c: Counts, sure: usize) -> Search
+fn bad_entry(nodes: &[u8], entries: &[u8], text: &[u8], c: Counts, sure: usize) -> Option<usize>
     requires { Given c nodes.now entries.now text.now × (sure ≡ sure_records true entries.now text.now c.entries) }
-    ensures { result ≡ search_of (rule5 (entries_tree c nodes.now entries.now text.now)) }
+    ensures { result ≡ rule5 (entries_tree c nodes.now entries.now text.now) }
 {
-    let end = c.nodes;
-    let mut n = 0;
-    while n < end {
-        let found = bad_in_node(nodes, entries, text, c, n, sure);
-        if let Search::At(e) = found {
-            return Search::At(e);
+    for n in 0..c.nodes {
+        if let Some(e) = bad_in_node(nodes, entries, text, c, n, sure) {
+            return Some(e);
         }
         if ends_entries(nodes, c, n) {
-            return Search::Nowhere;
+            return None;
         }
-        n += 1;
     }
-    Search::Nowhere
+    None
 }
 
-pub fn first_bad_entry(nodes: &[u8], entries: &[u8], text: &[u8], c: Counts) -> Search
+pub fn first_bad_entry(nodes: &[u8], entries: &[u8], text: &[u8], c: Counts) -> Option<usize>
     requires { Given c nodes.now entries.now text.now }
-    ensures { result ≡ search_of (rule5 (entries_tree c nodes.now entries.now text.now)) }
+    ensures { result ≡ rule5 (entries_tree c nodes.now entries.now text.now) }
 {
     if c.entries == 0 {
-        return Search::Nowhere;
+        return None;
     }
     bad_entry(
         nodes,

@@ -9,7 +9,7 @@ use barred_bytes::short_holds;
 use model::MOST_NAME;
 use parts::records::{Counts, name_length, name_offset};
 use parts::texts::name;
-use strings::dots;
+use strings::{Dots, dots};
 
 // Whether a zero byte or a slash stands in a name that may be known to be clean. Other names are those of small tables, and one that breaks
 // the rule.
@@ -17,10 +17,7 @@ fn holds_forbidden(s: &[u8], clean: bool) -> bool
     requires { clean ≡ true → holds_barred true s.now ≡ false }
     ensures { result ≡ holds_barred true s.now }
 {
-    if clean {
-        return false;
-    }
-    short_holds(s)
+    !clean && short_holds(s)
 }
 
 // The names of entries below `sure` are known to have no zero byte and no slash.
@@ -29,21 +26,9 @@ pub fn name_holds(entries: &[u8], text: &[u8], c: Counts, e: usize, sure: usize)
     ensures { result ≡ name_holds (entries_tree c [] entries.now text.now) e }
 {
     let length = name_length(entries, e);
-    if text.len() < name_offset(entries, e) + length {
-        return false;
-    }
-    if length == 0 {
-        return false;
-    }
-    if MOST_NAME < length {
+    if text.len() < name_offset(entries, e) + length || length == 0 || MOST_NAME < length {
         return false;
     }
     let s = name(entries, text, e);
-    if holds_forbidden(s, e < sure) {
-        return false;
-    }
-    if s[0] != b'.' {
-        return true;
-    }
-    dots(s) == 0
+    !holds_forbidden(s, e < sure) && (s[0] != b'.' || dots(s) == Dots::Normal)
 }

@@ -29,13 +29,10 @@ fn mount_0_lead(mounts: &[u8], c: Counts) -> Lead
     requires { MountRecords c mounts.now }
     ensures { result ≡ hangs_lead (mounts_tree c [] mounts.now) 0 }
 {
-    if mount_parent(mounts, 0) != 0 {
-        return Lead::Dangling;
+    if mount_parent(mounts, 0) == 0 && mount_point(mounts, 0) == mount_root(mounts, 0) {
+        return Lead::Settled;
     }
-    if mount_point(mounts, 0) != mount_root(mounts, 0) {
-        return Lead::Dangling;
-    }
-    Lead::Settled
+    Lead::Dangling
 }
 
 fn point_lead(nodes: &[u8], mounts: &[u8], c: Counts, m: usize) -> Lead
@@ -43,20 +40,14 @@ fn point_lead(nodes: &[u8], mounts: &[u8], c: Counts, m: usize) -> Lead
     ensures { result ≡ point_lead (mounts_tree c nodes.now mounts.now) m }
 {
     let parent = mount_parent(mounts, m);
-    if m <= parent {
-        return Lead::Dangling;
-    }
     let point = mount_point(mounts, m);
-    if !is_directory(nodes, c, point) {
-        return Lead::Dangling;
+    if parent < m && is_directory(nodes, c, point) && point != mount_root(mounts, parent) {
+        return Lead::Into {
+            mount: parent,
+            node: point,
+        };
     }
-    if point == mount_root(mounts, parent) {
-        return Lead::Dangling;
-    }
-    Lead::Into {
-        mount: parent,
-        node: point,
-    }
+    Lead::Dangling
 }
 
 // Rule 6, but for mounts that share parent and point.
@@ -64,10 +55,7 @@ pub fn mount_lead(nodes: &[u8], mounts: &[u8], c: Counts, m: usize) -> Lead
     requires { NodeRecords c nodes.now × MountRecords c mounts.now × (m < c.mounts) }
     ensures { result ≡ mount_lead (mounts_tree c nodes.now mounts.now) m }
 {
-    if !is_directory(nodes, c, mount_root(mounts, m)) {
-        return Lead::Dangling;
-    }
-    if mount_zero(mounts, m) != 0 {
+    if !is_directory(nodes, c, mount_root(mounts, m)) || mount_zero(mounts, m) != 0 {
         return Lead::Dangling;
     }
     if m == 0 {
@@ -85,17 +73,14 @@ pub fn link_lead(nodes: &[u8], c: Counts, n: usize) -> Lead
         return Lead::Settled;
     }
     let mount = node_first(nodes, n);
-    if c.mounts <= mount {
-        return Lead::Dangling;
-    }
     let target = node_count(nodes, n);
-    if c.nodes <= target {
+    if c.mounts <= mount || c.nodes <= target {
         return Lead::Dangling;
     }
     let kind = node_kind(nodes, target);
     match kind {
         1 => Lead::Into {
-            mount: mount,
+            mount,
             node: target,
         },
         2 => Lead::Settled,
@@ -106,11 +91,7 @@ pub fn link_lead(nodes: &[u8], c: Counts, n: usize) -> Lead
 pub fn is_settled(l: Lead) -> bool
     ensures { result ≡ settled l }
 {
-    match l {
-        Lead::Settled => true,
-        Lead::Into { mount: _, node: _ } => false,
-        Lead::Dangling => false,
-    }
+    matches!(l, Lead::Settled)
 }
 
 // Of magic links, or else of mounts.
@@ -124,37 +105,39 @@ pub fn lead_of(nodes: &[u8], mounts: &[u8], c: Counts, links: bool, k: usize) ->
     mount_lead(nodes, mounts, c, k)
 }
 
-// Follows parents from a directory to a root, in as many steps as are left. How many are left then, or 0 where the root was not met in
-// time: that tells nothing of the directory. At the top of a tree, its own parent, the steps run out.
-fn climb(nodes: &[u8], c: Counts, n: usize, root: usize, steps: usize) -> usize
+// Follows parents from a directory to a root, in as many steps as are left, and tells how many are left then. No root that is met in time
+// tells nothing of the directory. At the top of a tree, its own parent, the steps run out.
+fn climb(nodes: &[u8], c: Counts, n: usize, root: usize, steps: usize) -> Option<usize>
     requires { NodeRecords c nodes.now × DirectoriesHold (mounts_tree c nodes.now []) × (is_directory (mounts_tree c nodes.now []) n ≡ true) }
     ensures { result ≡ climbed (parent_in nodes.now) steps n root }
 {
     let mut k = n;
-    let mut left = steps;
-    while root < k {
-        if left == 0 {
-            return 0;
+    for left in (0..steps).rev() {
+        if k <= root {
+            return (k == root).then_some(left + 1);
         }
         k = node_parent(nodes, k);
-        left -= 1;
     }
-    if k == root {
-        return left;
-    }
-    0
+    None
 }
 
-// How many of the steps are left once a record is seen to keep its rule, or 0 where it is not seen.
-fn steps_left(nodes: &[u8], mounts: &[u8], c: Counts, links: bool, k: usize, steps: usize) -> usize
+// How many of the steps are left after a record that is seen to keep its rule.
+fn steps_left(
+    nodes: &[u8],
+    mounts: &[u8],
+    c: Counts,
+    links: bool,
+    k: usize,
+    steps: usize,
+) -> Option<usize>
     requires { NodeRecords c nodes.now × MountRecords c mounts.now × DirectoriesHold (mounts_tree c nodes.now mounts.now) × (k < counted links c) }
     ensures { result ≡ steps_after (mounts_tree c nodes.now mounts.now)
         (lead_by links (mounts_tree c nodes.now mounts.now) k) steps }
 {
     match lead_of(nodes, mounts, c, links, k) {
-        Lead::Settled => steps,
+        Lead::Settled => Some(steps),
         Lead::Into { mount, node } => climb(nodes, c, node, mount_root(mounts, mount), steps),
-        Lead::Dangling => 0,
+        Lead::Dangling => None,
     }
 }
 
@@ -175,13 +158,11 @@ pub fn first_unseen(
     ensures { result ≡ unseen_from links (mounts_tree c nodes.now mounts.now) from (end - from) (budget c) }
 {
     let mut left = 2 * c.nodes + SPARE;
-    let mut k = from;
-    while k < end {
-        left = steps_left(nodes, mounts, c, links, k, left);
-        if left == 0 {
+    for k in from..end {
+        let Some(rest) = steps_left(nodes, mounts, c, links, k, left) else {
             return k;
-        }
-        k += 1;
+        };
+        left = rest;
     }
-    k
+    end
 }

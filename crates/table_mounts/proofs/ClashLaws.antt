@@ -9,7 +9,8 @@ use borrow.Author.Tests.{eqb-true, eqb-false}
 use lib.Dec.{eqb}
 use lib.ListN.{length, get_or, set, length-set}
 use lib.Seq.{get_or-set_same, get_or-set_other}
-use Rattle.model.specs.Bytes.{find, is_some}
+use Rattle.std.specs.Option.{is_some}
+use Rattle.model.specs.Bytes.{find}
 use Rattle.model.specs.Tree.{mount_parent_in, mount_point_in}
 use Rattle.model.specs.TableCheck.{shares_point}
 use Rattle.laws.proofs.ByteLaws.{find_absent, Finds, finds-here, finds-on, finds-none}

@@ -1,8 +1,8 @@
 -- Rule 6 by leads and clashes: below the first clash a mount keeps it where its lead does, and the first clash breaks it. Assumes nothing.
+use Rattle.std.specs.Prelude.{None, Some}
 use Prim.Native.Nat.{ℕ, zero, suc, ◌-◌, ◌≤◌, ◌<◌}
 use mathlib.Core.Bool.{Bool, true, false, cond, not, ◌&&◌, and-true, and-false}
 use mathlib.Core.List.{List, []}
-use mathlib.Core.Option.{none, some}
 use mathlib.Core.Path.{◌≡◌, refl, sym, ap, ◌∙◌, subst}
 use mathlib.Core.Logic.{⊎_elim}
 use native.Mathlib.Omega.{arith}
@@ -82,12 +82,12 @@ module _ (t : Tree) (some_mount : 1 ≤ t.mounts) where
     start : t.mounts - 0 ≡ t.mounts
     start = omega arith
 
-    pub rule-some : m < t.mounts → rule6 t ≡ some m
+    pub rule-some : m < t.mounts → rule6 t ≡ Some m
     unfolding rule6 first_failing
     rule-some h =
         let p : ℕ → Bool = λ k. not (mount_holds t k) in
         rw start at (find-later p 0 m t.mounts (omega arith) (omega arith) good ∙ find-here p m t.mounts h (bad h))
 
-    pub rule-none : t.mounts ≤ m → rule6 t ≡ none
+    pub rule-none : t.mounts ≤ m → rule6 t ≡ None
     unfolding rule6 first_failing
     rule-none h = find_absent (λ k. not (mount_holds t k)) 0 t.mounts (λ i l u. good i l (omega arith))

@@ -6,15 +6,13 @@ ghost use Rattle.std.specs.Prelude.{false, [], ◌≡◌, ◌+◌, ◌*◌, ◌�
 ghost use Rattle.model.specs.TableCheck.{shares_point, rule6};
 ghost use Rattle.laws.specs.Acceptance.{DirectoriesHold};
 ghost use Rattle.parts.specs.Parts.{mounts_tree, NodeRecords, MountRecords};
-ghost use Rattle.parts.specs.Searches.{search_of};
 ghost use Rattle.table_leads.specs.Leads.{broken_from};
 ghost use Rattle.table_mounts.specs.Clashes.{uncounted, first_clash, slot_of, Noted};
 
 use parts::lending::lend;
 use parts::records::{Counts, packed_point};
-use parts::search::Search;
-use table_leads::{first_unseen, is_settled, mount_lead};
-use table_under::first_broken;
+use table_leads::{is_settled, mount_lead};
+use table_under::first_breaking;
 
 // A byte for each of so many classes of points.
 const SLOTS: usize = 1024;
@@ -28,12 +26,10 @@ fn shares_point(mounts: &[u8], m: usize) -> bool
     ensures { result ≡ shares_point (uncounted mounts.now) m }
 {
     let wanted = packed_point(mounts, m);
-    let mut k = 1;
-    while k < m {
+    for k in 1..m {
         if packed_point(mounts, k) == wanted {
             return true;
         }
-        k += 1;
     }
     false
 }
@@ -42,15 +38,12 @@ fn first_clash_of_few(mounts: &[u8], c: Counts) -> usize
     requires { MountRecords c mounts.now }
     ensures { result ≡ first_clash (mounts_tree c [] mounts.now) }
 {
-    let end = c.mounts;
-    let mut m = 1;
-    while m < end {
+    for m in 1..c.mounts {
         if shares_point(mounts, m) {
             return m;
         }
-        m += 1;
     }
-    m
+    c.mounts
 }
 
 // The byte of a mount's point. Those that share parent and point share it; those that share the point alone don't, up to some 256.
@@ -76,20 +69,19 @@ fn clashes(mounts: &[u8], points: &mut [u8], m: usize) -> bool
     false
 }
 
+// Its loop stands apart from that of few mounts: the test has a state, the bytes, whose promise a closure's contract would have to carry
+// from call to call.
 fn first_clash_of_many(mounts: &[u8], c: Counts) -> usize
     requires { MountRecords c mounts.now }
     ensures { result ≡ first_clash (mounts_tree c [] mounts.now) }
 {
     let mut points = [0u8; SLOTS];
-    let end = c.mounts;
-    let mut m = 1;
-    while m < end {
+    for m in 1..c.mounts {
         if clashes(mounts, &mut points, m) {
             return m;
         }
-        m += 1;
     }
-    m
+    c.mounts
 }
 
 // The lowest mount that shares parent and point with an earlier one, else the number of mounts.
@@ -103,8 +95,8 @@ fn first_clash(mounts: &[u8], c: Counts) -> usize
     first_clash_of_many(mounts, c)
 }
 
-// The lowest mount below `end` that breaks the rule by itself, else `end`. What both ways are lent is made where they are called, so that
-// a table with one mount does not pay for it.
+// The lowest mount below `end` that breaks the rule by itself, else `end`. What the search is lent is made where it is called, so that a
+// table with one mount does not pay for it.
 fn first_broken_below(nodes: &[u8], mounts: &[u8], c: Counts, end: usize) -> usize
     requires { NodeRecords c nodes.now × MountRecords c mounts.now × DirectoriesHold (mounts_tree c nodes.now mounts.now)
         × (1 ≤ end) × (end ≤ c.mounts) }
@@ -116,25 +108,17 @@ fn first_broken_below(nodes: &[u8], mounts: &[u8], c: Counts, end: usize) -> usi
     if end <= 1 {
         return end;
     }
-    let d = Counts {
-        nodes: c.nodes,
-        mounts: c.mounts,
-        entries: c.entries,
-    };
-    let at = first_unseen(lend(nodes), lend(mounts), d, false, 1, end);
-    if end <= at {
-        return end;
-    }
-    first_broken(lend(nodes), lend(mounts), d, false, at, end)
+    let d = c;
+    first_breaking::<false>(lend(nodes), lend(mounts), d, 1, end)
 }
 
-pub fn first_bad_mount(nodes: &[u8], mounts: &[u8], c: Counts) -> Search
+pub fn first_bad_mount(nodes: &[u8], mounts: &[u8], c: Counts) -> Option<usize>
     requires { NodeRecords c nodes.now × MountRecords c mounts.now × DirectoriesHold (mounts_tree c nodes.now mounts.now) }
-    ensures { result ≡ search_of (rule6 (mounts_tree c nodes.now mounts.now)) }
+    ensures { result ≡ rule6 (mounts_tree c nodes.now mounts.now) }
 {
     let m = first_broken_below(nodes, mounts, c, first_clash(mounts, c));
     if m < c.mounts {
-        return Search::At(m);
+        return Some(m);
     }
-    Search::Nowhere
+    None
 }

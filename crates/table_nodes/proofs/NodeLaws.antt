@@ -1,4 +1,5 @@
 -- Laws of rule 4: its sentences by what was read of a node, and the loop over the nodes. Assumes nothing.
+use Rattle.std.specs.Prelude.{None, Some}
 use Prim.Native.Nat.{ℕ, ◌+◌, ◌-◌, ◌*◌, ◌^◌, ◌≤◌, ◌<◌}
 use mathlib.Core.Bool.{Bool, true, false, not, and-false}
 use mathlib.Core.Path.{◌≡◌, refl, sym, ap, ap₂, ◌∙◌}
@@ -10,8 +11,6 @@ use Rattle.model.specs.Bytes.{contains, first_failing}
 use Rattle.model.specs.Tree.{Tree, is_directory}
 use Rattle.model.specs.TableCheck.{directory_count, sum_below, counts_before, directory_holds, file_holds, symlink_holds, node_holds, rule4}
 use Rattle.laws.proofs.ByteLaws.{Finds, finds-here, finds-on, finds-none}
-use Rattle.parts.specs.Searches.{search_of}
-use Rattle.parts.specs.declared.search.Search.TheVariants.{At, Nowhere}
 
 module _ (t : Tree) (n : ℕ) where
   -- a directory
@@ -75,44 +74,41 @@ module _ (t : Tree) (n : ℕ) where
         link-clean b = link-by (sym b)
 
 -- A loop over the nodes stands at n: it has the sum of the directories passed, and the lowest failing node is the lowest from n on.
-pub record NodesFrom (t : Tree) (end sum n : ℕ) : Type 0 where
-  pub ends : end ≡ t.nodes
-  pub within : n ≤ end
+pub record NodesFrom (t : Tree) (sum n : ℕ) : Type 0 where
+  pub within : n ≤ t.nodes
   pub counted : sum ≡ counts_before t n
   pub small : sum ≤ n * 4294967296
-  pub finds : Finds (λ k. not (node_holds t k)) end (first_failing (node_holds t) t.nodes) n
+  pub finds : Finds (λ k. not (node_holds t k)) t.nodes (first_failing (node_holds t) t.nodes) n
 
-pub nodes-start : (t : Tree) → NodesFrom t t.nodes 0 0
+pub nodes-start : (t : Tree) → NodesFrom t 0 0
 unfolding first_failing counts_before sum_below
 nodes-start t =
     let e : t.nodes - 0 ≡ t.nodes = omega arith in
-    record { ends = refl; within = omega arith; counted = refl; small = omega arith; finds = record { from-here = rw e } }
+    record { within = omega arith; counted = refl; small = omega arith; finds = record { from-here = rw e } }
 
-module _ {t : Tree} {end sum n : ℕ} (loop : NodesFrom t end sum n) where
-  module _ {told : Bool} (h : n < end) (e : told ≡ node_holds t n) where
-    pub node-bad : not told ≡ true → At n ≡ search_of (rule4 t)
+module _ {t : Tree} {sum n : ℕ} (loop : NodesFrom t sum n) where
+  module _ {told : Bool} (h : n < t.nodes) (e : told ≡ node_holds t n) where
+    pub node-bad : not told ≡ true → Some n ≡ rule4 t
     unfolding rule4
     node-bad f = rw (← finds-here loop.finds h (ap not (sym e) ∙ f))
 
-    pub nodes-on : {more : ℕ} → not told ≡ false → more ≡ directory_count t n → more < 2 ^ 32 → NodesFrom t end (sum + more) (n + 1)
+    pub nodes-on : {more : ℕ} → not told ≡ false → more ≡ directory_count t n → more < 2 ^ 32 → NodesFrom t (sum + more) (n + 1)
     unfolding counts_before sum_below
     nodes-on f m l = record {
-      ends = loop.ends;
       within = omega arith;
       counted = rw (add-one n) (ap₂ ◌+◌ loop.counted m);
       small = omega (arith, loop.small);
       finds = finds-on loop.finds h (ap not (sym e) ∙ f);
     }
 
-  module _ (h : end ≤ n) where
-    all-counted : (n ≡ t.nodes) × (sum ≡ counts_before t t.nodes)
-    all-counted = let e : n ≡ t.nodes = omega (arith, loop.ends, loop.within) in (e, loop.counted ∙ ap (counts_before t) e)
+  module _ (h : t.nodes ≤ n) where
+    all-counted : sum ≡ counts_before t t.nodes
+    all-counted = let e : n ≡ t.nodes = omega (arith, loop.within) in loop.counted ∙ ap (counts_before t) e
 
-    pub sum-bad : (sum ≡ t.entries → ⊥) → At n ≡ search_of (rule4 t)
+    pub sum-bad : (sum ≡ t.entries → ⊥) → Some t.nodes ≡ rule4 t
     unfolding rule4
-    sum-bad e =
-        rw (← finds-none loop.finds h, ne_eqb _ _ (λ (f : counts_before t t.nodes ≡ t.entries). e (all-counted.1 ∙ f))) (ap At all-counted.0)
+    sum-bad e = rw (← finds-none loop.finds h, ne_eqb _ _ (λ (f : counts_before t t.nodes ≡ t.entries). e (all-counted ∙ f)))
 
-    pub none-bad : sum ≡ t.entries → Nowhere ≡ search_of (rule4 t)
+    pub none-bad : sum ≡ t.entries → None ≡ rule4 t
     unfolding rule4
-    none-bad e = rw (← finds-none loop.finds h, eq-eqb (counts_before t t.nodes) t.entries (sym all-counted.1 ∙ e))
+    none-bad e = rw (← finds-none loop.finds h, eq-eqb (counts_before t t.nodes) t.entries (sym all-counted ∙ e))

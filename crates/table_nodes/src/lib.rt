@@ -5,12 +5,10 @@ ghost use Rattle.std.specs.Prelude.{false, [], ◌≡◌, ◌^◌, ◌<◌};
 ghost use Rattle.model.specs.Tree.{kind_in};
 ghost use Rattle.model.specs.TableCheck.{counts_before, directory_count, directory_holds, file_holds, symlink_holds, magic_holds, node_holds, rule4};
 ghost use Rattle.parts.specs.Parts.{nodes_tree, NodeRecords};
-ghost use Rattle.parts.specs.Searches.{search_of};
 ghost use Rattle.table_texts.specs.Barred.{sure_records};
 
 use model::MOST_TEXT;
 use parts::records::{Counts, node_count, node_first, node_kind, node_parent};
-use parts::search::Search;
 use parts::texts::body;
 use strings::holds_byte;
 use table_texts::sure_records;
@@ -21,10 +19,7 @@ fn directory_holds(nodes: &[u8], c: Counts, n: usize, sum: usize) -> bool
     ensures { result ≡ directory_holds (nodes_tree c nodes.now []) n }
 {
     let parent = node_parent(nodes, n);
-    if n < parent {
-        return false;
-    }
-    if node_kind(nodes, parent) != 1 {
+    if n < parent || node_kind(nodes, parent) != 1 {
         return false;
     }
     node_first(nodes, n) == sum
@@ -34,10 +29,7 @@ fn file_holds(nodes: &[u8], c: Counts, n: usize) -> bool
     requires { NodeRecords c nodes.now × (n < c.nodes) }
     ensures { result ≡ file_holds (nodes_tree c nodes.now []) n }
 {
-    if node_parent(nodes, n) != 0 {
-        return false;
-    }
-    if node_first(nodes, n) != 0 {
+    if node_parent(nodes, n) != 0 || node_first(nodes, n) != 0 {
         return false;
     }
     node_count(nodes, n) == 0
@@ -49,22 +41,14 @@ fn symlink_holds(nodes: &[u8], text: &[u8], c: Counts, n: usize, sure: usize) ->
     ensures { result ≡ symlink_holds (nodes_tree c nodes.now text.now) n }
 {
     let count = node_count(nodes, n);
-    if node_parent(nodes, n) != 0 {
+    if node_parent(nodes, n) != 0
+        || text.len() < node_first(nodes, n) + count
+        || count == 0
+        || MOST_TEXT < count
+    {
         return false;
     }
-    if text.len() < node_first(nodes, n) + count {
-        return false;
-    }
-    if count == 0 {
-        return false;
-    }
-    if MOST_TEXT < count {
-        return false;
-    }
-    if n < sure {
-        return true;
-    }
-    !holds_byte(body(nodes, text, n), 0)
+    n < sure || !holds_byte(body(nodes, text, n), 0)
 }
 
 fn magic_holds(nodes: &[u8], c: Counts, n: usize) -> bool
@@ -105,24 +89,21 @@ fn directory_count(nodes: &[u8], c: Counts, n: usize, kind: usize) -> usize
     if kind == 1 { node_count(nodes, n) } else { 0 }
 }
 
-pub fn first_bad_node(nodes: &[u8], text: &[u8], c: Counts) -> Search
+pub fn first_bad_node(nodes: &[u8], text: &[u8], c: Counts) -> Option<usize>
     requires { NodeRecords c nodes.now }
-    ensures { result ≡ search_of (rule4 (nodes_tree c nodes.now text.now)) }
+    ensures { result ≡ rule4 (nodes_tree c nodes.now text.now) }
 {
     let sure = sure_records(nodes, text, c.nodes, false);
-    let end = c.nodes;
     let mut sum = 0;
-    let mut n = 0;
-    while n < end {
+    for n in 0..c.nodes {
         let kind = node_kind(nodes, n);
         if !node_holds(nodes, text, c, n, kind, sum, sure) {
-            return Search::At(n);
+            return Some(n);
         }
         sum += directory_count(nodes, c, n, kind);
-        n += 1;
     }
     if sum != c.entries {
-        return Search::At(n);
+        return Some(c.nodes);
     }
-    Search::Nowhere
+    None
 }

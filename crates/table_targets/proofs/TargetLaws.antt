@@ -1,8 +1,8 @@
 -- Rule 7 by leads: a search for the lowest node whose lead does not keep it, which may begin where records alone no longer do. Assumes nothing.
+use Rattle.std.specs.Prelude.{None, Some}
 use Prim.Native.Nat.{ℕ, ◌-◌, ◌≤◌, ◌<◌}
 use mathlib.Core.Bool.{true, false, not}
 use mathlib.Core.List.{List, []}
-use mathlib.Core.Option.{none, some}
 use mathlib.Core.Path.{◌≡◌, refl, sym, ap, ◌∙◌}
 use native.Mathlib.Omega.{arith}
 use borrow.Author.Tests.{not-false}
@@ -27,7 +27,7 @@ module _ (t : Tree) where
   start : t.nodes - 0 ≡ t.nodes
   start = omega arith
 
-  pub unsettled-found : Found (λ n. not (settled (link_lead t n))) 0 t.nodes (first_unsettled t)
+  unsettled-found : Found (λ n. not (settled (link_lead t n))) 0 t.nodes (first_unsettled t)
   unfolding first_unsettled
   unsettled-found = rw start at (found (λ n. not (settled (link_lead t n))) 0 t.nodes (omega arith))
 
@@ -44,11 +44,11 @@ module _ (t : Tree) where
   unfolding rule7 first_failing
   rule-by-leads = find-alike (λ n. not (magic_target_holds t n)) (λ n. not (keeps t (link_lead t n))) 0 t.nodes (λ i l u. ap not (link-keeps t i))
 
-  pub rule-some : (n : ℕ) → n ≡ broken_from true t 0 t.nodes → n < t.nodes → rule7 t ≡ some n
+  pub rule-some : (n : ℕ) → n ≡ broken_from true t 0 t.nodes → n < t.nodes → rule7 t ≡ Some n
   unfolding broken_from
   rule-some n e h = rule-by-leads ∙ found_some t.nodes n _ (sym (e ∙ rw start)) h
 
-  pub rule-none : (n : ℕ) → n ≡ broken_from true t 0 t.nodes → t.nodes ≤ n → rule7 t ≡ none
+  pub rule-none : (n : ℕ) → n ≡ broken_from true t 0 t.nodes → t.nodes ≤ n → rule7 t ≡ None
   unfolding broken_from
   rule-none n e h =
       let f : n ≡ found_or t.nodes (find (λ k. not (keeps t (link_lead t k))) 0 t.nodes) = e ∙ rw start in

@@ -6,34 +6,29 @@ ghost use Rattle.std.specs.Prelude.{true, ◌≡◌, []};
 ghost use Rattle.model.specs.TableCheck.{rule7};
 ghost use Rattle.laws.specs.Acceptance.{DirectoriesHold};
 ghost use Rattle.parts.specs.Parts.{mounts_tree, NodeRecords, MountRecords};
-ghost use Rattle.parts.specs.Searches.{search_of};
 ghost use Rattle.table_leads.specs.Leads.{broken_from};
 ghost use Rattle.table_targets.specs.Targets.{first_unsettled};
 
 use parts::lending::lend;
 use parts::records::Counts;
-use parts::search::Search;
-use table_leads::{first_unseen, is_settled, link_lead};
-use table_under::first_broken;
+use table_leads::{is_settled, link_lead};
+use table_under::first_breaking;
 
 // The lowest node whose record alone does not keep the rule, else the number of nodes.
 fn first_unsettled(nodes: &[u8], c: Counts) -> usize
     requires { NodeRecords c nodes.now }
     ensures { result ≡ first_unsettled (mounts_tree c nodes.now []) }
 {
-    let end = c.nodes;
-    let mut n = 0;
-    while n < end {
+    for n in 0..c.nodes {
         if !is_settled(link_lead(nodes, c, n)) {
             return n;
         }
-        n += 1;
     }
-    n
+    c.nodes
 }
 
-// The lowest node that breaks the rule, else the number of nodes. What both ways are lent is made where they are called, so that a table
-// without magic links to directories does not pay for it.
+// The lowest node that breaks the rule, else the number of nodes. What the search is lent is made where it is called, so that a table without
+// magic links to directories does not pay for it.
 fn first_bad(nodes: &[u8], mounts: &[u8], c: Counts) -> usize
     requires { NodeRecords c nodes.now × MountRecords c mounts.now × DirectoriesHold (mounts_tree c nodes.now mounts.now) }
     ensures { result ≡ broken_from true (mounts_tree c nodes.now mounts.now) 0 c.nodes }
@@ -43,26 +38,18 @@ fn first_bad(nodes: &[u8], mounts: &[u8], c: Counts) -> usize
     if end <= from {
         return end;
     }
-    let d = Counts {
-        nodes: c.nodes,
-        mounts: c.mounts,
-        entries: c.entries,
-    };
-    let at = first_unseen(lend(nodes), lend(mounts), d, true, from, end);
-    if end <= at {
-        return end;
-    }
-    first_broken(lend(nodes), lend(mounts), d, true, at, end)
+    let d = c;
+    first_breaking::<true>(lend(nodes), lend(mounts), d, from, end)
 }
 
 // The lowest node whose magic link has a bad target.
-pub fn first_bad_target(nodes: &[u8], mounts: &[u8], c: Counts) -> Search
+pub fn first_bad_target(nodes: &[u8], mounts: &[u8], c: Counts) -> Option<usize>
     requires { NodeRecords c nodes.now × MountRecords c mounts.now × DirectoriesHold (mounts_tree c nodes.now mounts.now) }
-    ensures { result ≡ search_of (rule7 (mounts_tree c nodes.now mounts.now)) }
+    ensures { result ≡ rule7 (mounts_tree c nodes.now mounts.now) }
 {
     let n = first_bad(nodes, mounts, c);
     if n < c.nodes {
-        return Search::At(n);
+        return Some(n);
     }
-    Search::Nowhere
+    None
 }

@@ -2,8 +2,9 @@
 use Prim.Native.Nat.{ℕ, ◌+◌, ◌-◌, ◌*◌, ◌/◌, ◌^◌, ◌≤◌, ◌<◌}
 use mathlib.Core.Bool.{Bool, true, false, cond, not, true≢false}
 use mathlib.Core.List.{List}
-use mathlib.Core.Logic.{◌⊎◌, inl, inr, ⊎_elim}
+use mathlib.Core.Logic.{⊎_elim}
 use mathlib.Core.Path.{◌≡◌, refl, sym, ap, ap₂, ◌∙◌}
+use native.Mathlib.Nat.{eq-or-lt_of_le}
 use native.Mathlib.Numerals.{add-one}
 use native.Mathlib.Omega.{arith}
 use borrow.Author.Tests.{lt-ltb, le-ltb, le-leb, lt-leb, leb-true, not-true}
@@ -12,12 +13,12 @@ use lib.ListN.{length}
 use Rattle.model.specs.Bytes.{part, contains, find}
 use Rattle.model.specs.TableCheck.{sum_below}
 use Rattle.parts.specs.Searches.{found_or}
-use Rattle.parts.proofs.FoundLaws.{found, FirstFrom}
+use Rattle.parts.proofs.FoundLaws.{found}
 use Rattle.strings.proofs.PartLaws.{not-in-part}
 use Rattle.laws.proofs.Cases.{below_or, both, neither}
 use Rattle.laws.proofs.SumLaws.{sum-grows}
 use Rattle.barred_bytes.specs.Barred.{holds_barred}
-use Rattle.table_texts.specs.Barred.{record_size, part_start, part_length, record_barred, first_barred, few_records, sure_records, seen_clean, longer_than, is_marked}
+use Rattle.table_texts.specs.Barred.{record_size, part_start, part_length, record_barred, first_barred, few_records, sure_records, seen_clean, longer_than, is_marked, FirstTold}
 
 module _ (names : Bool) (records text : List ℕ) where
   -- a part that ends after the text, and one that does not
@@ -41,13 +42,23 @@ module _ (names : Bool) (records text : List ℕ) where
         → record_barred names records text k ≡ holds_barred kind (part text start (end - start))
     told-inside told start end e f h = inside start end e f h ∙ ap (λ (b : Bool). holds_barred b (part text start (end - start))) told
 
-  -- the search for the first stands at a record
-  abbrev pub NoneBefore : ℕ → ℕ → Type 0
-  NoneBefore count k = FirstFrom (λ i. record_barred names records text i) count (first_barred names records text count) k
-
-  pub first-start : (count : ℕ) → NoneBefore count 0
+  -- the first that a test tells barred is the first barred one
+  pub told-first : {told : ℕ → Bool → Type 0} {count k : ℕ} → ((i : ℕ) (r : Bool) → told i r → r ≡ record_barred names records text i)
+      → FirstTold told count k → k ≡ first_barred names records text count
   unfolding first_barred
-  first-start count = let e : count - 0 ≡ count = omega arith in record { within = omega arith; from-here = rw e }
+  told-first {told} {count} {k} is first =
+      let p : ℕ → Bool = λ i. record_barred names records text i in
+      let start : count - 0 ≡ count = omega arith in
+      let f = rw start at (found p 0 count (omega arith)) in
+      let j = found_or count (find p 0 count) in
+      ⊎_elim
+      (λ (h : k < j). absurd (true≢false (is k true (first.passes (omega (arith, f.below))) ∙ f.lowest k (omega arith) h)))
+      (λ (h : j ≤ k).
+      ⊎_elim
+      (λ (e : j ≡ k). sym e)
+      (λ (l : j < k). absurd (true≢false (sym (f.passes (omega (arith, first.within))) ∙ sym (is j false (first.lowest j l)))))
+      (eq-or-lt_of_le h))
+      (below_or k j)
 
 -- no part of a clean string is barred
 clean-part : (names : Bool) (s : List ℕ) (at n : ℕ) → holds_barred names s ≡ false → holds_barred names (part s at n) ≡ false
@@ -122,11 +133,6 @@ pub sure-first : {names kind : Bool} {r s t u : List ℕ} {first : ℕ} (count :
     → first ≡ first_barred kind s u count → first ≡ sure_records names r t count
 unfolding sure_records
 sure-first count few e f g h = rw few (cc)
-
--- what an "if" on the records' kind gave
-pub given : {n x y : ℕ} (names : Bool) → ((names ≡ true) × (n ≡ x)) ⊎ ((names ≡ false) × (n ≡ y)) → n ≡ cond names x y
-given names (inl w) = rw w.0 w.1
-given names (inr w) = rw w.0 w.1
 
 -- where the text is seen to be clean, it is
 pub seen_clean_lem : (names : Bool) (text : List ℕ) (count : ℕ) → seen_clean names text count ≡ true → holds_barred names text ≡ false

@@ -1,5 +1,5 @@
 -- Records whose names or bodies hold a byte which they may not.
-use Rattle.std.specs.Prelude.{ℕ, ◌+◌, ◌*◌, ◌/◌, Bool, cond, not, ◌&&◌, ◌||◌, List, eqb, ltb, leb, length}
+use Rattle.std.specs.Prelude.{ℕ, ◌+◌, ◌*◌, ◌/◌, ◌≤◌, ◌<◌, Bool, true, false, cond, not, ◌&&◌, ◌||◌, List, eqb, ltb, leb, length}
 use Rattle.model.specs.Bytes.{find, part}
 use Rattle.model.specs.Tree.{kind_in, first_in, count_in, name_offset_in, name_length_in}
 use Rattle.model.specs.TableCheck.{sum_below}
@@ -27,6 +27,12 @@ record_barred names records text k =
 -- the first record with such a part, else their count
 unfoldable pub first_barred : Bool → List ℕ → List ℕ → ℕ → ℕ
 first_barred names records text count = found_or count (find (λ k. record_barred names records text k) 0 count)
+
+-- the same by a test that may answer so for a number: the first that it passes, else the count
+pub record FirstTold (told : ℕ → Bool → Type 0) (count first : ℕ) : Type 0 where
+  pub within : first ≤ count
+  pub passes : first < count → told first true
+  pub lowest : (k : ℕ) → k < first → told k false
 
 -- so few records that they are read one by one as they come: names only over a short text
 unfoldable pub few_records : Bool → List ℕ → ℕ → Bool

@@ -11,7 +11,8 @@ use Rattle.table_leads.specs.Leads.{lead_by, keeps, broken_from}
 use Rattle.table_leads.specs.declared.Lead.{Lead}
 use Rattle.table_leads.specs.declared.Lead.TheVariants.{Settled, Into, Dangling}
 use Rattle.table_leads.proofs.LeadLaws.{into-facts}
-use Rattle.table_under.specs.Rows.{Chart, Charted, within}
+use Rattle.table_under.specs.declared.Chart.{Chart}
+use Rattle.table_under.specs.Rows.{Charted, within}
 
 -- the search for the lowest record from `from` on that breaks its rule stands at k
 abbrev pub BrokenAt : Bool → Tree → ℕ → ℕ → ℕ → Type 0

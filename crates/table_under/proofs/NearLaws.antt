@@ -12,12 +12,14 @@ use borrow.Author.Tests.{eq-eqb, ne_eqb, eqb-true, eqb-false, lt-ltb, le-ltb, lt
 use lib.Dec.{eqb, ltb}
 use lib.ListN.{length, get_or, set, length-set, length-replicate}
 use lib.Seq.{get_or-set_same, get_or-set_other}
+use Rattle.std.proofs.lemmas.List.{set_past}
 use Rattle.model.specs.Tree.{Tree, is_directory, under}
 use Rattle.laws.specs.Acceptance.{DirectoriesHold}
 use Rattle.laws.proofs.Acceptance.{directory-below, parent-directory, parent-le}
 use Rattle.laws.proofs.Cases.{below_or, cond_cases}
 use Rattle.laws.proofs.UnderLaws.{under_parent, under_top, under_low}
-use Rattle.table_under.specs.Rows.{bit_of, set_bit, copy_words, Chart, chart, row_above, root_row, pass_to, pass_down, Fitting, Rooted, Numbered, within, Charted}
+use Rattle.table_under.specs.declared.Chart.{Chart}
+use Rattle.table_under.specs.Rows.{bit_of, set_bit, copy_row, chart, row_above, root_row, pass_to, pass_down, Fitting, Rooted, within, Charted}
 use Rattle.table_under.proofs.RowLaws.{blank, zeros, same_test, blank-clear, length-copied, copied-bit, copied-else, length-set-bit, set-bit, set-bit-else}
 
 -- what a list has at j once v stands at i: v if it is that place, else what it had
@@ -60,18 +62,18 @@ module _ {N : ℕ} {root : ℕ → ℕ} {m : ℕ} {near : List ℕ} (rooted : Ro
   }
 
 -- before any node is passed
-pub charted-none : (t : Tree) (near : List ℕ) → t.mounts ≤ 256 → Rooted t.nodes t.mount_root t.mounts near → Charted t 0 (chart near (blank 1028))
-charted-none t near few rooted = record {
+pub charted-none : (t : Tree) (s : Chart) → t.mounts ≤ 256 → Rooted t.nodes t.mount_root t.mounts s.near → s.rows ≡ blank 1028 → Charted t 0 s
+charted-none t s few rooted clear = record {
   numbered = record {
     room = rooted.room;
     fitting = record {
-      wide = omega (arith, length-replicate {A = ℕ} 1028 0);
-      few = λ n. ⊎_elim (λ (some : 0 < get_or near n 0). omega (arith, (rooted.own n some).0)) (λ none. omega arith) (below_or 0 (get_or near n 0));
+      wide = omega (arith, ap length clear, length-replicate {A = ℕ} 1028 0);
+      few = λ n. ⊎_elim (λ (some : 0 < get_or s.near n 0). omega (arith, (rooted.own n some).0)) (λ none. omega arith) (below_or 0 (get_or s.near n 0));
     };
     low = λ n some. omega (arith, (rooted.own n some).1);
     fresh = λ n l some. (rooted.own n some).1;
     own = λ m l h. (rooted.is_root m l h, (rooted.own (t.mount_root m) (rooted.is_root m l h)).1);
-    empty = λ bit small. blank-clear 1028 0 bit;
+    empty = λ bit small. ap (λ (l : List ℕ). bit_of l 0 bit) clear ∙ blank-clear 1028 0 bit;
   };
   told = λ n m l. absurd (omega arith);
 }
@@ -92,7 +94,7 @@ module _ (parent : ℕ → ℕ) (near rows : List ℕ) (n : ℕ) {above own : �
   unfolding pass_to
   pass_on none = rw (sym is-above, sym is-own, eq-eqb own 0 none)
 
-  pub pass-root : {copied written : List ℕ} → (own ≡ 0 → ⊥) → copied ≡ copy_words rows above own 4 → written ≡ set_bit copied own (own - 1)
+  pub pass-root : {copied written : List ℕ} → (own ≡ 0 → ⊥) → copied ≡ copy_row rows above own → written ≡ set_bit copied own (own - 1)
       → chart near written ≡ pass_to parent n (chart near rows)
   unfolding pass_to
   pass-root some c w =
@@ -115,28 +117,27 @@ module _ {N : ℕ} (near rows : List ℕ) (n : ℕ) {r read : ℕ} (is : read �
   within-inside h is_row is_number =
       rw (lt-ltb r N (omega arith)) (ap₂ (bit_of rows) is_row (ap (λ (k : ℕ). k - 1) (is_number ∙ ap (λ (k : ℕ). get_or near k 0) is)))
 
--- a root that is among the nodes has a number
-pub own-some : {N M : ℕ} {root : ℕ → ℕ} {end : ℕ} {s : Chart} → Numbered N M root end s → (m : ℕ) {r : ℕ} → r ≡ root m → m < M → r < N → 0 < get_or s.near r 0
-own-some {s = s} numbered m is l h = omega (arith, (numbered.own m l (omega arith)).0, ap (λ (k : ℕ). get_or s.near k 0) is)
-
 -- there is room for a node's row
-pub own_room : (n : ℕ) {s : Chart} → Fitting s → 4 * get_or s.near n 0 + 4 ≤ length s.rows
+own_room : (n : ℕ) {s : Chart} → Fitting s → 4 * get_or s.near n 0 + 4 ≤ length s.rows
 own_room n fitting = omega (arith, fitting.few n, fitting.wide)
 
 -- and for the row above
 module _ (parent : ℕ → ℕ) (n : ℕ) {s : Chart} (fitting : Fitting s) where
-  above-few : row_above parent s.near n ≤ 256
+  pub above-few : row_above parent s.near n ≤ 256
   unfolding row_above
   above-few = cond_cases (λ (v : ℕ). v ≤ 256) (ltb (parent n) n) _ 0 (λ e. fitting.few (parent n)) (λ e. omega arith)
 
-  pub above-room : 4 * row_above parent s.near n + 4 ≤ length s.rows
+  above-room : 4 * row_above parent s.near n + 4 ≤ length s.rows
   above-room = omega (arith, above-few, fitting.wide)
 
   -- so the rows still fit, once the node has the number above, or its own row written
-  fitting-on : n < length s.near → Fitting (chart (set s.near n (row_above parent s.near n)) s.rows)
-  fitting-on inside = record {
+  fitting-on : Fitting (chart (set s.near n (row_above parent s.near n)) s.rows)
+  fitting-on = record {
     wide = fitting.wide;
-    few = λ k. set_cases (λ (v : ℕ). v ≤ 256) s.near n k (row_above parent s.near n) inside (λ e. above-few) (fitting.few k);
+    few = λ k. ⊎_elim
+        (λ (inside : n < length s.near). set_cases (λ (v : ℕ). v ≤ 256) s.near n k (row_above parent s.near n) inside (λ e. above-few) (fitting.few k))
+        (λ (past : length s.near ≤ n). rw (set_past s.near n (row_above parent s.near n) past) (fitting.few k))
+        (below_or n (length s.near));
   }
 
   fitting-root : Fitting (chart s.near (root_row s.rows (row_above parent s.near n) (get_or s.near n 0)))
@@ -144,13 +145,13 @@ module _ (parent : ℕ → ℕ) (n : ℕ) {s : Chart} (fitting : Fitting s) wher
       let above = row_above parent s.near n in
       let own = get_or s.near n 0 in
       record {
-        wide = rw (length-set-bit (copy_words s.rows above own 4) own (own - 1), length-copied s.rows above own 4) fitting.wide;
+        wide = rw (length-set-bit (copy_row s.rows above own) own (own - 1), length-copied s.rows above own above-room (own_room n fitting)) fitting.wide;
         few = fitting.few;
       }
 
-  pub passed-fitting : n < length s.near → Fitting (pass_to parent n s)
+  pub passed-fitting : Fitting (pass_to parent n s)
   unfolding pass_to
-  passed-fitting inside = cond_cases Fitting (eqb (get_or s.near n 0) 0) _ _ (λ e. fitting-on inside) (λ e. fitting-root)
+  passed-fitting = cond_cases Fitting (eqb (get_or s.near n 0) 0) _ _ (λ e. fitting-on) (λ e. fitting-root)
 
 -- what is told of a root among the nodes, and of any other
 module _ (t : Tree) (directories : DirectoriesHold t) where
@@ -246,7 +247,7 @@ module _ (t : Tree) (directories : DirectoriesHold t) (n : ℕ) (s : Chart) (cha
         record {
           numbered = record {
             room = rw (length-set s.near n above) kept.room;
-            fitting = fitting-on t.parent n kept.fitting inside;
+            fitting = fitting-on t.parent n kept.fitting;
             low = λ k. set_cases (λ (v : ℕ). 0 < v → root (v - 1) ≤ k) s.near n k above inside (λ e some. omega (arith, above_lower some)) (kept.low k);
             fresh = λ k l. subst (λ (v : ℕ). 0 < v → root (v - 1) ≡ k) (sym (number-other k (λ e. omega arith))) (kept.fresh k (omega arith));
             own = λ m l h. subst (λ (v : ℕ). (0 < v) × (root (v - 1) ≡ root m)) (sym (number-other (root m) (not_root m l h))) (kept.own m l h);
@@ -266,23 +267,23 @@ module _ (t : Tree) (directories : DirectoriesHold t) (n : ℕ) (s : Chart) (cha
     room : 4 * number n + 4 ≤ length s.rows
     room = own_room n charted.numbered.fitting
 
-    -- no lower node has the root's number, nor has the node above
-    above_apart : above ≡ number n → ⊥
-    above_apart e = omega (arith, above_lower (omega arith), ap (λ (v : ℕ). root (v - 1)) e, own_root)
+    room_above : 4 * above + 4 ≤ length s.rows
+    room_above = above-room t.parent n charted.numbered.fitting
 
+    -- no lower node has the root's number
     lower-apart : (k : ℕ) → k < n → number k ≡ number n → ⊥
     lower-apart k l e = omega (arith, charted.numbered.low k (omega arith), ap (λ (v : ℕ). root (v - 1)) e, own_root)
 
     row-else : (row bit : ℕ) → (row ≡ number n → ⊥) → bit < 256 → bit_of rows row bit ≡ bit_of s.rows row bit
     row-else row bit apart small =
-        set-bit-else (copy_words s.rows above (number n) 4) (number n) (number n - 1) bit (omega (arith, charted.numbered.fitting.few n)) small row apart
-        ∙ copied-else s.rows above (number n) bit small row apart
+        set-bit-else (copy_row s.rows above (number n)) (number n) (number n - 1) bit (omega (arith, charted.numbered.fitting.few n)) small row apart
+        ∙ copied-else s.rows above (number n) room_above room bit small row apart
 
     row-own : (bit : ℕ) → bit < 256 → bit_of rows (number n) bit ≡ bit_of s.rows above bit || eqb bit (number n - 1)
     row-own bit small =
-        set-bit (copy_words s.rows above (number n) 4) (number n) (number n - 1) bit (omega (arith, charted.numbered.fitting.few n)) small
-        (omega (arith, room, length-copied s.rows above (number n) 4))
-        ∙ ap (λ (b : Bool). b || eqb bit (number n - 1)) (copied-bit s.rows above (number n) bit small above_apart room)
+        set-bit (copy_row s.rows above (number n)) (number n) (number n - 1) bit (omega (arith, charted.numbered.fitting.few n)) small
+        (omega (arith, room, length-copied s.rows above (number n) room_above room))
+        ∙ ap (λ (b : Bool). b || eqb bit (number n - 1)) (copied-bit s.rows above (number n) room_above room bit small)
 
     -- numbers tell roots apart
     own-bit : (m : ℕ) → m < t.mounts → root m < t.nodes → eqb n (root m) ≡ eqb (number (root m) - 1) (number n - 1)
@@ -333,8 +334,8 @@ charted-down t directories (suc n) s charted h =
     rw add-one at (charted-more t directories n (pass_down t.parent n s) (charted-down t directories n s charted (omega arith)) (omega arith))
 
 -- so all nodes, from rows that are 0
-pub charted-all : (t : Tree) (directories : DirectoriesHold t) (near : List ℕ) (s : Chart) → t.mounts ≤ 256
-    → Rooted t.nodes t.mount_root t.mounts near → s ≡ pass_down t.parent t.nodes (chart near (blank 1028)) → Charted t t.nodes s
-charted-all t directories near s few rooted e =
+pub charted-all : (t : Tree) (directories : DirectoriesHold t) (first : Chart) {s : Chart} → t.mounts ≤ 256
+    → Rooted t.nodes t.mount_root t.mounts first.near → first.rows ≡ blank 1028 → s ≡ pass_down t.parent t.nodes first → Charted t t.nodes s
+charted-all t directories first few rooted clear e =
     subst (Charted t t.nodes) (sym e)
-    (charted-down t directories t.nodes (chart near (blank 1028)) (charted-none t near few rooted) (le_refl t.nodes))
+    (charted-down t directories t.nodes first (charted-none t first few rooted clear) (le_refl t.nodes))

@@ -1,5 +1,5 @@
 -- Laws of the rows' bits: what a row has once another is copied into it, and once a bit of it is set. Assumes nothing.
-use Prim.Native.Nat.{ℕ, zero, suc, ◌+◌, ◌*◌, ◌/◌, ◌%◌, ◌^◌, ◌≤◌, ◌<◌}
+use Prim.Native.Nat.{ℕ, zero, suc, ◌+◌, ◌-◌, ◌*◌, ◌/◌, ◌%◌, ◌^◌, ◌≤◌, ◌<◌}
 use mathlib.Core.Bool.{Bool, true, false, ◌||◌, or-false}
 use mathlib.Core.List.{List}
 use mathlib.Core.Logic.{⊎_elim}
@@ -9,12 +9,14 @@ use native.Mathlib.Omega.{arith}
 use borrow.Author.Tests.{eq-eqb, ne_eqb, eqb-true, eqb-false}
 use lib.Bits.{bit_or}
 use lib.Dec.{eqb}
-use lib.ListN.{length, get_or, set, replicate, length-set}
+use lib.ListN.{length, get_or, set, drop, replicate, length-set}
 use lib.Pow.{shl_exact}
-use lib.Seq.{get_or-set_same, get_or-set_other}
+use lib.Seq.{get_or-set_same, get_or-set_other, paste, paste-zero, paste-suc}
+use Rattle.std.proofs.lemmas.List.{get_or-drop, length-drop}
+use Rattle.std.proofs.lemmas.List.Edits.{length-paste}
 use Rattle.model.specs.Bytes.{has}
 use Rattle.laws.proofs.BitLaws.{has-or, has-pow}
-use Rattle.table_under.specs.Rows.{word_of, bit_of, set_bit, copy_words}
+use Rattle.table_under.specs.Rows.{word_of, bit_of, set_bit, copy_row}
 
 -- the list that has 0 at each place
 abbrev pub blank : ℕ → List ℕ
@@ -37,45 +39,55 @@ pub blank-clear : (n row bit : ℕ) → bit_of (blank n) row bit ≡ false
 unfolding bit_of has
 blank-clear n row bit = rw (zeros n (word_of row bit), zero-div (2 ^ (bit % 64)))
 
-module _ (rows : List ℕ) (from to : ℕ) where
-  pub length-copied : (k : ℕ) → length (copy_words rows from to k) ≡ length rows
-  unfolding copy_words
-  length-copied zero = refl
-  length-copied (suc k) = simp length-set (length-copied k)
+-- a row put in place of another, one word after the other
+module _ (rows : List ℕ) (from to : ℕ) (read : 4 * from + 4 ≤ length rows) (written : 4 * to + 4 ≤ length rows) where
+  -- with the first words written, so many
+  abbrev words : ℕ → List ℕ
+  words k = paste rows (4 * to) (drop (4 * from) rows) k
+
+  all-words : copy_row rows from to ≡ words 4
+  all-words = let four : 4 * from + 4 - 4 * from ≡ 4 = omega arith in ap words four
+
+  length-words : (k : ℕ) → k ≤ 4 → length (words k) ≡ length rows
+  length-words k few = length-paste rows (4 * to) (drop (4 * from) rows) k (omega arith) (omega (arith, length-drop (4 * from) rows))
+
+  words-more : (k : ℕ) → k < 4 → words (suc k) ≡ set (words k) (4 * to + k) (get_or rows (4 * from + k) 0)
+  words-more k h =
+      sym (paste-suc rows (4 * to) (drop (4 * from) rows) k 0 (omega arith) (omega (arith, length-drop (4 * from) rows)))
+      ∙ ap (set (words k) (4 * to + k)) (get_or-drop (4 * from) rows k 0)
+
+  pub length-copied : length (copy_row rows from to) ≡ length rows
+  length-copied = ap length all-words ∙ length-words 4 (omega arith)
 
   -- other words stay
-  copied-other : (k i : ℕ) → ((j : ℕ) → j < k → i ≡ 4 * to + j → ⊥) → get_or (copy_words rows from to k) i 0 ≡ get_or rows i 0
-  unfolding copy_words
-  copied-other zero i ne = refl
-  copied-other (suc k) i ne =
-      let done = copy_words rows from to k in
-      get_or-set_other done (4 * to + k) i (get_or done (4 * from + k) 0) 0 (ne k (omega arith)) ∙ copied-other k i (λ j l. ne j (omega arith))
+  copied-other : (k i : ℕ) → k ≤ 4 → ((j : ℕ) → j < k → i ≡ 4 * to + j → ⊥) → get_or (words k) i 0 ≡ get_or rows i 0
+  copied-other zero i few ne = ap (λ (l : List ℕ). get_or l i 0) (sym (paste-zero rows (4 * to) (drop (4 * from) rows)))
+  copied-other (suc k) i few ne =
+      ap (λ (l : List ℕ). get_or l i 0) (words-more k (omega arith))
+      ∙ get_or-set_other (words k) (4 * to + k) i (get_or rows (4 * from + k) 0) 0 (ne k (omega arith))
+      ∙ copied-other k i (omega arith) (λ j l. ne j (omega arith))
 
-  copied-word : (from ≡ to → ⊥) → (k : ℕ) → k ≤ 4 → 4 * to + k ≤ length rows → (j : ℕ) → j < k
-      → get_or (copy_words rows from to k) (4 * to + j) 0 ≡ get_or rows (4 * from + j) 0
-  unfolding copy_words
-  copied-word apart zero few room j l = absurd (omega arith)
-  copied-word apart (suc k) few room j l =
-      let done = copy_words rows from to k in
-      let word = get_or done (4 * from + k) 0 in
-      ⊎_elim
+  copied-word : (k : ℕ) → k ≤ 4 → (j : ℕ) → j < k → get_or (words k) (4 * to + j) 0 ≡ get_or rows (4 * from + j) 0
+  copied-word zero few j l = absurd (omega arith)
+  copied-word (suc k) few j l =
+      let word = get_or rows (4 * from + k) 0 in
+      ap (λ (s : List ℕ). get_or s (4 * to + j) 0) (words-more k (omega arith))
+      ∙ ⊎_elim
       (λ (e : j ≡ k).
-      ap (λ (i : ℕ). get_or (set done (4 * to + k) word) (4 * to + i) 0) e
-      ∙ get_or-set_same done (4 * to + k) word 0 (omega (arith, length-copied k))
-      ∙ copied-other k (4 * from + k) (λ i u f. apart (omega arith))
+      ap (λ (i : ℕ). get_or (set (words k) (4 * to + k) word) (4 * to + i) 0) e
+      ∙ get_or-set_same (words k) (4 * to + k) word 0 (omega (arith, length-words k (omega arith)))
       ∙ ap (λ (i : ℕ). get_or rows (4 * from + i) 0) (sym e))
-      (λ (u : j < k).
-      get_or-set_other done (4 * to + k) (4 * to + j) word 0 (λ e. omega arith) ∙ copied-word apart k (omega arith) (omega arith) j u)
+      (λ (u : j < k). get_or-set_other (words k) (4 * to + k) (4 * to + j) word 0 (λ e. omega arith) ∙ copied-word k (omega arith) j u)
       (eq-or-lt_of_le (le_of_suc-le-suc l))
 
   module _ (bit : ℕ) (small : bit < 256) where
-    pub copied-bit : (from ≡ to → ⊥) → 4 * to + 4 ≤ length rows → bit_of (copy_words rows from to 4) to bit ≡ bit_of rows from bit
+    pub copied-bit : bit_of (copy_row rows from to) to bit ≡ bit_of rows from bit
     unfolding bit_of
-    copied-bit apart room = ap (has (2 ^ (bit % 64))) (copied-word apart 4 (omega arith) room (bit / 64) (omega arith))
+    copied-bit = rw all-words (ap (has (2 ^ (bit % 64))) (copied-word 4 (omega arith) (bit / 64) (omega arith)))
 
-    pub copied-else : (row : ℕ) → (row ≡ to → ⊥) → bit_of (copy_words rows from to 4) row bit ≡ bit_of rows row bit
+    pub copied-else : (row : ℕ) → (row ≡ to → ⊥) → bit_of (copy_row rows from to) row bit ≡ bit_of rows row bit
     unfolding bit_of
-    copied-else row apart = ap (has (2 ^ (bit % 64))) (copied-other 4 (word_of row bit) (λ j l e. apart (omega arith)))
+    copied-else row apart = rw all-words (ap (has (2 ^ (bit % 64))) (copied-other 4 (word_of row bit) (omega arith) (λ j l e. apart (omega arith))))
 
 pub length-set-bit : (rows : List ℕ) (row bit : ℕ) → length (set_bit rows row bit) ≡ length rows
 unfolding set_bit

@@ -2,8 +2,10 @@
 -- and 1, or 0 for none: first for the roots of mounts alone, and then for every node that of the nearest root at or above it.
 use Rattle.std.specs.Prelude.{ℕ, zero, suc, ◌+◌, ◌-◌, ◌*◌, ◌/◌, ◌%◌, ◌^◌, ◌≤◌, ◌<◌, Bool, true, false, cond, List, ◌≡◌, eqb, ltb, length, get_or, set}
 use Rattle.std.specs.Int.Bits.{bit_or}
+use Rattle.std.specs.List.{copy_within}
 use Rattle.model.specs.Bytes.{has}
 use Rattle.model.specs.Tree.{Tree, is_directory, under}
+use Rattle.table_under.specs.declared.Chart.{Chart}
 
 -- a row is four words of 64 bits
 abbrev pub word_of : ℕ → ℕ → ℕ
@@ -15,18 +17,11 @@ bit_of rows row bit = has (2 ^ (bit % 64)) (get_or rows (word_of row bit) 0)
 unfoldable pub set_bit : List ℕ → ℕ → ℕ → List ℕ
 set_bit rows row bit = set rows (word_of row bit) (bit_or (get_or rows (word_of row bit) 0) (2 ^ (bit % 64)))
 
--- the first words of a row, so many, put into another
-unfoldable pub copy_words : List ℕ → ℕ → ℕ → ℕ → List ℕ
-copy_words rows from to zero = rows
-copy_words rows from to (suc k) =
-    let done = copy_words rows from to k in
-    set done (4 * to + k) (get_or done (4 * from + k) 0)
+-- a row put in place of another
+abbrev pub copy_row : List ℕ → ℕ → ℕ → List ℕ
+copy_row rows from to = copy_within rows (4 * from) (4 * from + 4) (4 * to)
 
 -- the numbers of the nodes, and the rows
-pub record Chart : Type 0 where
-  pub near : List ℕ
-  pub rows : List ℕ
-
 abbrev pub chart : List ℕ → List ℕ → Chart
 chart near rows = record { near = near; rows = rows }
 
@@ -36,7 +31,7 @@ row_above parent near n = cond (ltb (parent n) n) (get_or near (parent n) 0) 0
 
 -- what a root's row becomes: the row above, and the root's own bit
 abbrev pub root_row : List ℕ → ℕ → ℕ → List ℕ
-root_row rows above own = set_bit (copy_words rows above own 4) own (own - 1)
+root_row rows above own = set_bit (copy_row rows above own) own (own - 1)
 
 -- one node more: a root has its row written, and any other node gets the number above
 unfoldable pub pass_to : (ℕ → ℕ) → ℕ → Chart → Chart

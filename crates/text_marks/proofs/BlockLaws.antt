@@ -1,6 +1,6 @@
 -- Laws of a block's marks: what more bytes add to them, how large they are, and what they are of bytes that do not stand in the block.
 -- Assumes nothing.
-use Prim.Native.Nat.{ℕ, zero, suc, ◌+◌, ◌-◌, ◌*◌, ◌/◌, ◌^◌, ◌≤◌, ◌<◌}
+use Prim.Native.Nat.{ℕ, zero, suc, ◌+◌, ◌-◌, ◌*◌, ◌^◌, ◌≤◌, ◌<◌}
 use mathlib.Core.Bool.{Bool, true, false, cond, not, ◌||◌, or-false}
 use mathlib.Core.List.{List}
 use mathlib.Core.Path.{◌≡◌, refl, sym, ap₂, ◌∙◌}
@@ -58,37 +58,35 @@ module _ (test : ℕ → Bool) (text : List ℕ) where
       let a : (i : ℕ) → at + i + 1 ≡ at + suc i = λ i. omega arith in
       rw (a 1, a 2, a 3, a 4, a 5, a 6) (omega (arith, w 1 2, w 2 4, w 3 8, w 4 16, w 5 32, w 6 64, w 7 128))
 
--- A loop marks a whole block from its end on, eight bytes at a time, and stands at its byte i.
-pub record EightsFrom (test : ℕ → Bool) (text : List ℕ) (at i marks : ℕ) : Type 0 where
-  pub within : i ≤ 64
-  pub eights : i ≡ 8 * (i / 8)
-  pub are : marks ≡ marks_of test text (at + i) (64 - i)
+-- A loop marks a whole block from its end on, eight bytes at a time: those from the k-th eight on are marked.
+pub record EightsFrom (test : ℕ → Bool) (text : List ℕ) (at k marks : ℕ) : Type 0 where
+  pub within : k ≤ 8
+  pub are : marks ≡ marks_of test text (at + 8 * k) (64 - 8 * k)
 
-module _ {test : ℕ → Bool} {text : List ℕ} {at i marks : ℕ} (marked : EightsFrom test text at i marks) where
+module _ {test : ℕ → Bool} {text : List ℕ} {at k marks : ℕ} (marked : EightsFrom test text at k marks) where
   -- there is room for eight marks more
-  room-eight : 0 < i → 256 * marks + 255 < 2 ^ 64
+  room-eight : 0 < k → 256 * marks + 255 < 2 ^ 64
   room-eight l =
-      let few : 64 - i ≤ 56 = omega (arith, marked.eights) in
-      omega (arith, marked.are, marks-bound test text (at + i) (64 - i), pow_mono {i = 64 - i} {j = 56} few)
+      let few : 64 - 8 * k ≤ 56 = omega arith in
+      omega (arith, marked.are, marks-bound test text (at + 8 * k) (64 - 8 * k), pow_mono {i = 64 - 8 * k} {j = 56} few)
 
-  pub eight-mul : 0 < i → Fits w64 (256 * marks)
+  pub eight-mul : 0 < k → Fits w64 (256 * marks)
   eight-mul l = omega (arith, room-eight l)
 
-  pub eight-add : {eight : ℕ} → 0 < i → eight < 256 → Fits w64 (256 * marks + eight)
+  pub eight-add : {eight : ℕ} → 0 < k → eight < 256 → Fits w64 (256 * marks + eight)
   eight-add l h = omega (arith, room-eight l)
 
-  pub eight-more : {eight : ℕ} → 0 < i → eight ≡ marks_of test text (at + (i - 8)) 8 → EightsFrom test text at (i - 8) (256 * marks + eight)
+  pub eight-more : {eight : ℕ} → 0 < k → eight ≡ marks_of test text (at + 8 * (k - 1)) 8 → EightsFrom test text at (k - 1) (256 * marks + eight)
   eight-more l e =
-      let n : 64 - (i - 8) ≡ 8 + (64 - i) = omega (arith, marked.within, marked.eights) in
-      let m : at + (i - 8) + 8 ≡ at + i = omega (arith, marked.eights) in
+      let n : 64 - 8 * (k - 1) ≡ 8 + (64 - 8 * k) = omega (arith, marked.within) in
+      let m : at + 8 * (k - 1) + 8 ≡ at + 8 * k = omega arith in
       record {
         within = omega (arith, marked.within);
-        eights = omega (arith, marked.eights);
-        are = rw (n, marks-split test text 8 (64 - i) (at + (i - 8)), m) (omega (arith, marked.are));
+        are = rw (n, marks-split test text 8 (64 - 8 * k) (at + 8 * (k - 1)), m) (omega (arith, marked.are));
       }
 
-  pub eight-all : i ≤ 0 → marks ≡ marks_of test text at 64
-  eight-all l = let e : i ≡ 0 = omega arith in marked.are ∙ rw (e, add-zero at)
+  pub eight-all : k ≤ 0 → marks ≡ marks_of test text at 64
+  eight-all l = let e : k ≡ 0 = omega arith in marked.are ∙ rw (e, add-zero at)
 
 -- A loop marks a text from its end on, byte by byte, and stands at i.
 pub record MarksFrom (test : ℕ → Bool) (text : List ℕ) (i marks : ℕ) : Type 0 where

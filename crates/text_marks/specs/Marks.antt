@@ -4,6 +4,7 @@ use Rattle.std.specs.Int.Count.{count_trailing_zeros}
 use Rattle.model.specs.Bytes.{find}
 use Rattle.parts.specs.Searches.{found_or}
 use Rattle.barred_bytes.specs.Barred.{barred}
+use Rattle.text_marks.specs.declared.Marks.{Marks}
 
 -- the first barred byte from `at` on, below `end`, else `end`
 unfoldable pub first_from : Bool → List ℕ → ℕ → ℕ → ℕ
@@ -36,13 +37,11 @@ pub record MarkedFrom (names : Bool) (text : List ℕ) (start : ℕ) (marks behi
   pub later : (b : ℕ) → start ≤ b → 64 * b ≤ length text → get_or behind b 0 ≡ first_from names text (block_end text (64 * b)) (length text)
 
 -- a text of at most 65,535 bytes, and both for all its blocks
-pub record Marked (names : Bool) (text marks behind : List ℕ) : Type 0 where
+pub record Marked (names : Bool) (text : List ℕ) (m : Marks) : Type 0 where
   pub short : length text ≤ 65535
-  pub marks_room : 1024 ≤ length marks
-  pub behind_room : 1024 ≤ length behind
-  pub all : MarkedFrom names text 0 marks behind
+  pub all : MarkedFrom names text 0 m.bits m.behind
 
 -- the first barred byte from a position on, else the text's end, whichever text it is that has these marks
-abbrev pub NextBarred : List ℕ → List ℕ → ℕ → ℕ → Type 0
-NextBarred marks behind at r =
-    (names : Bool) (text : List ℕ) → Marked names text marks behind → at ≤ length text → r ≡ first_from names text at (length text)
+abbrev pub NextBarred : Marks → ℕ → ℕ → Type 0
+NextBarred m at r =
+    (names : Bool) (text : List ℕ) → Marked names text m → at ≤ length text → r ≡ first_from names text at (length text)

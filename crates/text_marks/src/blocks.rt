@@ -4,25 +4,9 @@ ghost use Rattle.model.specs.Bytes.{part, contains};
 ghost use Rattle.barred_bytes.specs.Barred.{barred};
 ghost use Rattle.text_marks.specs.Marks.{marks_of, block_marks};
 
-use barred_bytes::is_barred;
+use barred_bytes::{block_holds, is_barred};
 
 const BLOCK: usize = 64;
-
-// Whether a byte stands in a whole block. By `block_holds` of 64 bytes the marks below would not be compiled to vector code.
-fn whole_holds(text: &[u8], byte: u8, at: usize) -> bool
-    requires { at + 64 ≤ length text.now }
-    ensures { result ≡ contains byte (part text.now at 64) }
-{
-    let mut found = false;
-    let mut i = 0;
-    while i < BLOCK {
-        if text[at + i] == byte {
-            found = true;
-        }
-        i += 1;
-    }
-    found
-}
 
 fn weight(b: u8, byte: u8, value: u64) -> u64
     ensures { (result ≡ cond (eqb b byte) value 0) × (result ≤ value) }
@@ -52,10 +36,8 @@ fn full_marks(text: &[u8], byte: u8, at: usize) -> u64
     ensures { result ≡ marks_of (λ x. eqb x byte) text.now at 64 }
 {
     let mut marks = 0;
-    let mut i = BLOCK;
-    while 0 < i {
-        i -= 8;
-        marks = 256 * marks + eight_marks(text, byte, at + i);
+    for k in (0..8).rev() {
+        marks = 256 * marks + eight_marks(text, byte, at + 8 * k);
     }
     marks
 }
@@ -64,7 +46,7 @@ fn byte_marks(text: &[u8], byte: u8, at: usize) -> u64
     requires { at + 64 ≤ length text.now }
     ensures { result ≡ marks_of (λ x. eqb x byte) text.now at 64 }
 {
-    if !whole_holds(text, byte, at) {
+    if !block_holds::<BLOCK>(text, byte, at) {
         return 0;
     }
     full_marks(text, byte, at)
@@ -76,9 +58,7 @@ fn short_marks(text: &[u8], names: bool, at: usize) -> u64
     ensures { result ≡ marks_of (barred names) text.now at (length text.now - at) }
 {
     let mut marks = 0;
-    let mut i = text.len();
-    while at < i {
-        i -= 1;
+    for i in (at..text.len()).rev() {
         marks = 2 * marks;
         if is_barred(text[i], names) {
             marks += 1;

@@ -4,11 +4,12 @@
 
 pub mod blocks;
 
-ghost use Rattle.std.specs.Prelude.{◌≡◌, ◌*◌, ◌/◌, ◌%◌, ◌≤◌, ◌<◌, length};
+ghost use Rattle.std.specs.Prelude.{replicate, ◌≡◌, ◌*◌, ◌/◌, ◌%◌, ◌≤◌, ◌<◌, length};
 ghost use Rattle.text_marks.specs.Marks.{first_of, Marked, NextBarred};
 
 use crate::blocks::block_marks;
 
+#[tactic(auto, unfolding(crate::specs::Marks::first_of))]
 fn first_of(marks: u64, at: usize, behind: usize) -> usize
     requires { at ≤ 65536 }
     ensures { result ≡ first_of marks at behind }
@@ -19,33 +20,51 @@ fn first_of(marks: u64, at: usize, behind: usize) -> usize
     at + (u64::trailing_zeros(marks) as usize)
 }
 
-// From the last block on, so that what is behind a block is known.
-pub fn fill(text: &[u8], names: bool, marks: &mut [u64], behind: &mut [u16])
-    requires { (length text.now ≤ 65535) × (1024 ≤ length marks.old) × (1024 ≤ length behind.old) }
-    ensures { Marked names text.now marks.new behind.new }
-{
-    let mut b = text.len() / 64 + 1;
-    let mut next = text.len();
-    while 0 < b {
-        b -= 1;
-        behind[b] = next as u16;
-        let bits = block_marks(text, names, 64 * b);
-        marks[b] = bits;
-        next = first_of(bits, 64 * b, next);
+// So many blocks of 64 bytes begin in a text that may be marked.
+const BLOCKS: usize = 1024;
+
+// For each block its marks, and the first barred byte behind it.
+#[derive(Drop)]
+pub struct Marks {
+    pub bits: [u64; BLOCKS],
+    pub behind: [u16; BLOCKS],
+}
+
+impl Marks {
+    // Of no text yet.
+    pub fn new() -> Marks
+        ensures { (result.bits ≡ replicate 1024 0) × (result.behind ≡ replicate 1024 0) }
+    {
+        Marks {
+            bits: [0; BLOCKS],
+            behind: [0; BLOCKS],
+        }
     }
-}
 
-fn wide(k: u16) -> usize
-    ensures { (result ≡ k) × (result < 65536) }
-{
-    k as usize
-}
+    // From the last block on, so that what is behind a block is known.
+    pub fn fill(&mut self, text: &[u8], names: bool)
+        requires { length text.now ≤ 65535 }
+        ensures { Marked names text.now self.new }
+    {
+        let mut next = text.len();
+        for b in (0..text.len() / 64 + 1).rev() {
+            self.behind[b] = next as u16;
+            let bits = block_marks(text, names, 64 * b);
+            self.bits[b] = bits;
+            next = first_of(bits, 64 * b, next);
+        }
+    }
 
-// The first barred byte from a position on, else the text's end, of a text that has these marks.
-pub fn next_barred(marks: &[u64], behind: &[u16], at: usize) -> usize
-    requires { (at ≤ 65535) × (1024 ≤ length marks.now) × (1024 ≤ length behind.now) }
-    ensures { NextBarred marks.now behind.now at result }
-{
-    let b = at / 64;
-    first_of(marks[b] >> ((at % 64) as u64), at, wide(behind[b]))
+    // The first barred byte from a position on, else the text's end, of a text that has these marks.
+    pub fn next_barred(&self, at: usize) -> usize
+        requires { at ≤ 65535 }
+        ensures { NextBarred self.now at result }
+    {
+        let b = at / 64;
+        first_of(
+            self.bits[b] >> ((at % 64) as u64),
+            at,
+            usize::from(self.behind[b]),
+        )
+    }
 }

@@ -1,9 +1,9 @@
 -- An absolute path whose handle is not checked: the handle makes no difference. It is read only by ".." at its own place, event Escape, and
 -- what forbids Escape forbids Start too, which such a path meets first. Assumes nothing.
+use Rattle.std.specs.Prelude.{Option, None, Some}
 use Prim.Native.Nat.{ℕ, zero, suc}
 use mathlib.Core.Bool.{Bool, true, false, cond}
 use mathlib.Core.List.{List, [], ◌∷◌}
-use mathlib.Core.Option.{Option, none, some}
 use mathlib.Core.Path.{◌≡◌, refl, sym, ap, ◌∙◌}
 use lib.Dec.{ltb}
 use lib.ListN.{length}
@@ -33,7 +33,7 @@ use Rattle.theorems.specs.AnyHandle.{Unchecked, AnyHandle, AnyNumber, Passing, B
 abbrev elsewhere : Request → Place → Request
 elsewhere a h = record { tree = a.tree; handle = h; root = a.root; in_root = a.in_root; follow_last = a.follow_last; path_only = a.path_only }
 
-module _ (R : Restrictions) (free : forbids R Escape ≡ none) where
+module _ (R : Restrictions) (free : forbids R Escape ≡ None) where
   -- transitions to one state, with the same error from their events
   record Alike (x y : Transition) : Type 0 where
     met-same : x.met ≡ y.met
@@ -58,8 +58,8 @@ module _ (R : Restrictions) (free : forbids R Escape ≡ none) where
 
     entry-same : (last : Bool) (p : Place) (o : Option ℕ) → step_by a last p o ≡ step_by b last p o
     unfolding step_to follow_link magic_link symbolic_link
-    entry-same last p none = refl
-    entry-same last p (some e) = refl
+    entry-same last p None = refl
+    entry-same last p (Some e) = refl
 
     name-same : (last : Bool) (p : Place) (name : List ℕ) → by_name a last p name ≡ by_name b last p name
     unfolding by_name
@@ -129,8 +129,8 @@ module _ (R : Restrictions) (a : Request) (h : Place) (directory : Bool) (path :
   started : (o : Option Errno) → forbids R Start ≡ o
       → refused_by o not_walked (answer R (begin_at a directory path a.root)) ≡ refused_by o not_walked (answer R (begin_at (elsewhere a h) directory path a.root))
   unfolding begin_at answer forbids row
-  started none e = walk-alike R e a h 40 _ _
-  started (some n) e = refl
+  started None e = walk-alike R e a h 40 _ _
+  started (Some n) e = refl
 
   path-alike : absolute path ≡ true → answer R (walk_path a directory path) ≡ answer R (walk_path (elsewhere a h) directory path)
   unfolding walk_path answer
@@ -167,7 +167,7 @@ pub beneath-stops : BeneathStops
 unfolding resolve events_of places_of restrictions trace_of walk_path answer meetings stood_on forbids row first_set
 beneath-stops image call p rooted b m =
     let u : Unchecked call = record { rooted = rooted; no_in_root = scopes-apart call.how p.how_passes b; no_mark = m } in
-    let before : refused_before image call ≡ none = left-to-handle image call p ∙ rw (unchecked call u) in
+    let before : refused_before image call ≡ None = left-to-handle image call p ∙ rw (unchecked call u) in
     record { answered = rw (before, rooted, m, b); met = rw (before, rooted, m, b); stood = rw (before, rooted, m, b) }
 
 pub marked-first : MarkedFirst

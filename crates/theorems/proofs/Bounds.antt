@@ -1,9 +1,9 @@
 -- "At most 40 links are followed and at most 83,968 components taken (41 texts of at most 2,048)." (RULES 11.1), whatever the bytes; and a place
 -- that is found is one of the tree. Assumes nothing.
+use Rattle.std.specs.Prelude.{Option, None, Some}
 use Prim.Native.Nat.{ℕ, zero, suc, ◌-◌, ◌≤◌, ◌<◌}
 use mathlib.Core.Bool.{Bool, true, false, cond, not, ◌&&◌, ◌||◌}
 use mathlib.Core.List.{List, [], ◌∷◌}
-use mathlib.Core.Option.{Option, none, some}
 use mathlib.Core.Path.{◌≡◌, refl, sym, subst}
 use native.Mathlib.Omega.{arith}
 use lib.Dec.{lit≤}
@@ -53,8 +53,8 @@ meets-within t [] p later b w = w
 meets-within t (e ∷ es) p later b w = (b, meets-within t es p later b w)
 
 refused-within : (t : Tree) (o : Option Errno) (p : Progress) (a : Answer) → Bounded p → AnswerWithin t a → AnswerWithin t (refused_by o p a)
-refused-within t none p a b w = w
-refused-within t (some e) p a b w = (b, tt)
+refused-within t None p a b w = w
+refused-within t (Some e) p a b w = (b, tt)
 
 answer-within : (t : Tree) (R : Restrictions) (trace : Trace) → Within t trace → AnswerWithin t (answer R trace)
 unfolding answer
@@ -168,8 +168,8 @@ either-root-inside {t} sound p b inside =
 resolve-within-by : (image : List ℕ) (call : Call) (o : Option Refusal) → refused_before image call ≡ o
     → Uncounted o → AnswerWithin (tree_of image) (unless_refused o (answer (restrictions call) (trace_of image call)))
 unfolding trace_of request_of
-resolve-within-by image call (some r) e u = (subst Bounded (sym u) not-walked-bounded, tt)
-resolve-within-by image call none e u =
+resolve-within-by image call (Some r) e u = (subst Bounded (sym u) not-walked-bounded, tt)
+resolve-within-by image call None e u =
     let tree = tree_of image in
     let un = unrefused image call e in
     let sound = accepted-sound image un.table_passes in

@@ -1,9 +1,9 @@
 -- Demand 3 of two calls of `resolve`, and its corollary: an added restriction can only stop a walk. Assumes nothing.
+use Rattle.std.specs.Prelude.{Option, None, Some}
 use Prim.Native.Nat.{ℕ, zero, suc, ◌+◌, ◌-◌, ◌^◌, ◌≤◌, ◌<◌}
-use mathlib.Core.Bool.{Bool, true, false, cond, not, ◌&&◌, ◌||◌, and-false, or-false, true≢false}
+use mathlib.Core.Bool.{Bool, true, false, cond, not, ◌&&◌, ◌||◌, and-false, or-false}
 use mathlib.Core.List.{List}
 use mathlib.Core.Logic.{inl, inr, ⊎_elim}
-use mathlib.Core.Option.{Option, none, some}
 use mathlib.Core.Path.{◌≡◌, refl, sym, ap, ◌∙◌}
 use native.Mathlib.Omega.{arith}
 use lib.Bits.{bit_or}
@@ -11,9 +11,9 @@ use lib.Dec.{eqb, ltb, lit<}
 use lib.Pow.{pow_pos}
 use lib.ListN.{length, get_or, set, length-set}
 use lib.Seq.{get_or-set_same, get_or-set_other}
-use native.Mathlib.Nat.{lt_irrefl, lt_of_le_of_lt}
 use borrow.Author.Tests.{ltb-true, ltb-false}
-use Rattle.model.specs.Bytes.{field, has, is_some}
+use Rattle.std.specs.Option.{is_some}
+use Rattle.model.specs.Bytes.{field, has}
 use Rattle.model.specs.Tree.{Tree, tree_of}
 use Rattle.model.specs.Answers.{refuse_if}
 use Rattle.model.specs.OpenHow.{flags_of, mode_of, padding_of, resolve_of, unknown_bit, tail_set, length_refused, scopes_refused}
@@ -29,10 +29,9 @@ use Rattle.model.specs.declared.Answer.{Answer}
 use Rattle.model.specs.declared.Answer.TheVariants.{Found}
 use Rattle.model.specs.declared.Errno.TheVariants.{Einval}
 use Rattle.laws.proofs.ByteLaws.{field-ext, find-ext}
-use Rattle.laws.proofs.Cases.{some-not-none, cond_cases}
+use Rattle.laws.proofs.Cases.{cond_cases}
 use Rattle.laws.proofs.BitLaws.{has-or, has-or-high, or-low}
 use Rattle.laws.proofs.Refusals.{unrefused, how-long}
-use Rattle.laws.proofs.TraceLaws.{found-not-refused}
 use Rattle.theorems.proofs.OnlyStops as trace
 
 -- the number that the bits of the added restrictions make, and its bits one by one
@@ -73,11 +72,11 @@ masked u v false h = ap (λ (t : Bool). t && true) (h refl)
 -- a bit that is not known to resolve lies above the known ones
 above-known : (b : ℕ) → has (2 ^ b) known_resolve ≡ false → 32 ≤ 2 ^ b
 unfolding has
-above-known zero h = absurd (true≢false h)
-above-known (suc zero) h = absurd (true≢false h)
-above-known (suc (suc zero)) h = absurd (true≢false h)
-above-known (suc (suc (suc zero))) h = absurd (true≢false h)
-above-known (suc (suc (suc (suc zero)))) h = absurd (true≢false h)
+above-known zero h = cc
+above-known (suc zero) h = cc
+above-known (suc (suc zero)) h = cc
+above-known (suc (suc (suc zero))) h = cc
+above-known (suc (suc (suc (suc zero)))) h = cc
 above-known (suc (suc (suc (suc (suc b))))) h = omega (arith, pow_pos b)
 
 -- known bits that are added make no bit unknown
@@ -89,7 +88,7 @@ unknown-kept x y h b =
 
 -- both scopes are set after adding where they were before, BENEATH being added only with IN_ROOT off
 scopes : (a b r : Bool) → (a ≡ true → r ≡ false) → ((b || a) && r) ≡ (b && r)
-scopes true b true off = absurd (true≢false (off refl))
+scopes true b true off = cc (off refl)
 scopes true b false off = and-false (b || true) ∙ sym (and-false b)
 scopes false b r off = ap (λ (t : Bool). t && r) (or-false b)
 
@@ -139,7 +138,7 @@ module _ (added : Restrictions) (call call' : Call) (adds : Adds added call call
   scopes-kept : scopes_refused (resolve_of how') ≡ scopes_refused (resolve_of how)
   scopes-kept =
       rw (bit_added 3 (added beneath) (bits_of added).3, in-root-kept)
-      (ap (λ (b : Bool). refuse_if b Einval none) (scopes (added beneath) (has BENEATH (resolve_of how)) (has IN_ROOT (resolve_of how)) scope))
+      (ap (λ (b : Bool). refuse_if b Einval None) (scopes (added beneath) (has BENEATH (resolve_of how)) (has IN_ROOT (resolve_of how)) scope))
 
   how-kept : how_refused how' ≡ how_refused how
   unfolding how_refused length_refused
@@ -151,10 +150,10 @@ unfolding handle_refused
 handle-kept t h h' e = rw (ap (λ p. p.mount) e, ap (λ p. p.node) e)
 
 -- a check that refuses nothing is one that may be skipped
-skips : (b : Bool) {o : Option Refusal} → o ≡ none → cond b none o ≡ none
-skips b e = cond_cases (λ x. x ≡ none) b none _ (λ _. refl) (λ _. e)
+skips : (b : Bool) {o : Option Refusal} → o ≡ None → cond b None o ≡ None
+skips b e = cond_cases (λ x. x ≡ None) b None _ (λ _. refl) (λ _. e)
 
-module _ (added : Restrictions) (image : List ℕ) (call call' : Call) (good : handle_refused (tree_of image) call.handle ≡ none) (adds : Adds added call call')
+module _ (added : Restrictions) (image : List ℕ) (call call' : Call) (good : handle_refused (tree_of image) call.handle ≡ None) (adds : Adds added call call')
     (scope : 24 ≤ length call.how → added beneath ≡ true → has IN_ROOT (resolve_of call.how) ≡ false) where
   how-same-by : (b : Bool) → ltb (length call.how) 24 ≡ b → how_refused call'.how ≡ how_refused call.how
   how-same-by true e = ap how_refused (adds.short (ltb-true _ _ e))
@@ -178,11 +177,11 @@ module _ (added : Restrictions) (image : List ℕ) (call call' : Call) (good : h
   only-stops : (o : Option Refusal) → refused_before image call ≡ o
       → OnlyStops added image call call' (resolve image call) (resolve image call')
   unfolding resolve events_of first_forbidden
-  only-stops (some r) e = record {
+  only-stops (Some r) e = record {
     same = λ _. rw (before-kept, e);
-    stopped = λ m p f. absurd (some-not-none (m, p) (sym (rw e at f)));
+    stopped = λ m p f. cc (rw e at f);
   }
-  only-stops none e =
+  only-stops None e =
       let l = how-long call.how (unrefused image call e).how_passes in
       let all = all_set added call call' adds (scope l) l in
       let R = restrictions call in
@@ -217,8 +216,8 @@ never-elsewhere added image call call' a r found = go (first_forbidden added (ev
     only = demand-3 added image call call' a
 
     go : (o : Option Meeting) → first_forbidden added (events_of image call) ≡ o → resolve image call ≡ Found r
-    go none e = sym (only.same e) ∙ found
-    go (some (m, p)) e = let s = only.stopped m p e in absurd (found-not-refused r s.0 p (sym found ∙ s.2))
+    go None e = sym (only.same e) ∙ found
+    go (Some (m, p)) e = let s = only.stopped m p e in cc
 
 -- resolve after a store to its first byte
 resolve-set : (how : List ℕ) (y : ℕ) → 24 ≤ length how → get_or how 16 0 < 256 → y < 256
@@ -242,7 +241,7 @@ setting-adds added call byte = go (ltb (length call.how) 24) refl
       same_length = rw e;
       alike = λ i outside. rw e;
       short = λ s. rw e;
-      bits_added = λ l. absurd (lt_irrefl 24 (lt_of_le_of_lt l (ltb-true _ _ e)));
+      bits_added = λ l. absurd (omega (arith, ltb-true _ _ e));
     }
     go false e = record {
       same_place = refl;
@@ -250,6 +249,6 @@ setting-adds added call byte = go (ltb (length call.how) 24) refl
       same_path = refl;
       same_length = rw e (length-set call.how 16 _);
       alike = λ i outside. rw e (get_or-set_other call.how 16 i _ 0 (λ x. ⊎_elim (λ (l : i < 16). omega arith) (λ (l : 24 ≤ i). omega arith) outside));
-      short = λ s. absurd (lt_irrefl 24 (lt_of_le_of_lt (ltb-false _ _ e) s));
+      short = λ s. absurd (omega (arith, ltb-false _ _ e));
       bits_added = λ l. rw e (resolve-set call.how (added_bits added) l byte (let y = bits_of added in omega arith));
     }

@@ -1,9 +1,9 @@
 -- Demand 3 (RULES 12.3) between two opens, about their replies. Assumes nothing.
+use Rattle.std.specs.Prelude.{Option, None, Some}
 use Prim.Native.Nat.{ℕ, ◌<◌}
 use mathlib.Core.Bool.{Bool, true, false, not, ◌&&◌}
 use mathlib.Core.List.{List}
 use mathlib.Core.Logic.{inl}
-use mathlib.Core.Option.{Option, none, some}
 use mathlib.Core.Path.{◌≡◌, refl, sym, ap, ap₂, ◌∙◌}
 use native.Mathlib.Omega.{arith}
 use borrow.Author.Tests.{eqb-true, eqb-false}
@@ -21,7 +21,6 @@ use Rattle.model.specs.declared.Handle.{Handle}
 use Rattle.model.specs.declared.Reply.{Reply}
 use Rattle.model.specs.declared.Reply.TheVariants.{Opened}
 use Rattle.laws.proofs.ByteLaws.{field-ext, find-alike}
-use Rattle.laws.proofs.Cases.{some-not-none}
 use Rattle.laws.proofs.DescriptorLaws.{slot-below, slot_same, slot-other}
 use Rattle.theorems.specs.Adding.{Adds, OnlyStops, events_of, first_forbidden}
 use Rattle.theorems.specs.Descriptors.{AddedToOpen, open_events, RepliesOnlyStop, OpensOnlyStop}
@@ -60,8 +59,8 @@ same-reply slots slots' marked (Found r) free = rw free (by (lowest_free slots))
     reply n = Opened (record { number = n; reached = r })
 
     by : (o : Option ℕ) → (giving slots' o (handle_at r.place marked) reply).reply ≡ (giving slots o (handle_at r.place marked) reply).reply
-    by none = refl
-    by (some n) = refl
+    by None = refl
+    by (Some n) = refl
 
 refused-vain : (image : List ℕ) (slots : List Slot) (d : ℕ) (marked : Bool) (path how : List ℕ) (h : Handle) → slot_at slots d ≡ holding h
     → asked_in_vain marked how ≡ true → serve image slots (open_path d marked path how) ≡ denying slots Einval
@@ -95,7 +94,7 @@ module _ (added : Restrictions) (image : List ℕ) (slots slots' : List Slot) (d
   only = demand-3 added image call call' pair.call_added
 
   -- the events of the first open
-  none-met : asked_in_vain marked how ≡ true → first_forbidden added (open_events image marked call) ≡ none
+  none-met : asked_in_vain marked how ≡ true → first_forbidden added (open_events image marked call) ≡ None
   unfolding open_events first_forbidden
   none-met e = rw e
 
@@ -107,7 +106,7 @@ module _ (added : Restrictions) (image : List ℕ) (slots slots' : List Slot) (d
   in-vain e =
       let one = ap (λ (s : Served). s.reply) (refused-vain image slots d marked path how h pair.held e) in
       let two = ap (λ (s : Served). s.reply) (refused-vain image slots' d marked path how' h' then_held (vain ∙ e)) in
-      record { same = λ _. two ∙ sym one; stopped = λ ev p at. absurd (some-not-none (ev, p) (sym at ∙ none-met e)) }
+      record { same = λ _. two ∙ sym one; stopped = λ ev p at. cc (none-met e) }
 
   abbrev reply_to : Answer → Reply
   reply_to a = (answering slots marked a).reply

@@ -1,9 +1,10 @@
 -- The descriptor table, call by call; demand 3 between two opens is `DescriptorPairs`. Assumes nothing.
+use Rattle.std.specs.Prelude.{Option, Some}
+use Rattle.std.proofs.lemmas.Bool.{cases_lt}
 use Prim.Native.Nat.{ℕ, ◌≤◌, ◌<◌}
 use mathlib.Core.Bool.{Bool, true, false}
 use mathlib.Core.List.{List, [], ◌∷◌, map}
 use mathlib.Core.Logic.{◌⊎◌, inl, inr}
-use mathlib.Core.Option.{Option, some}
 use mathlib.Core.Path.{◌≡◌, refl, sym, ap, ap₂, ◌∙◌, subst}
 use native.Mathlib.Omega.{arith}
 use borrow.Author.Tests.{eqb-true, eqb-false}
@@ -21,8 +22,7 @@ use Rattle.model.specs.declared.Handle.{Handle}
 use Rattle.model.specs.declared.Reached.{Reached}
 use Rattle.model.specs.declared.Reply.{Reply}
 use Rattle.model.specs.declared.Reply.TheVariants.{Opened, Duplicated, Done, Refused}
-use Rattle.laws.proofs.Cases.{below_or}
-use Rattle.laws.proofs.DescriptorLaws.{holding-not, slot-below, slot-none, slot-other, slot-again, lowest-below, lowest-free, lowest-first, none_free, serve-cases}
+use Rattle.laws.proofs.DescriptorLaws.{slot-below, slot-none, slot-other, slot-again, lowest-below, lowest-free, lowest-first, none_free, serve-cases}
 use Rattle.theorems.specs.Descriptors.{OpenIsResolve, ClosedRefuses, LowestFree, LowestGiven, RefusalKeeps, MarkIsItsOwn, MarkStays, NothingOpen}
 
 -- an open whose mark is not asked in vain is what the resolver's answer makes of it
@@ -55,7 +55,7 @@ number_of (Duplicated n) = n
 number_of Done = 0
 number_of (Refused r) = 0
 
-lowest : (slots : List Slot) (n : ℕ) → lowest_free slots ≡ some n → LowestFree slots n
+lowest : (slots : List Slot) (n : ℕ) → lowest_free slots ≡ Some n → LowestFree slots n
 lowest slots n is = record { below = lowest-below slots n is; was_free = lowest-free slots n is; lowest = lowest-first slots n is }
 
 abbrev Gave : List Slot → Served → Type 0
@@ -96,8 +96,8 @@ mark-is-its-own image slots d e ne =
 
 -- a number that is open is not the one that is free
 module _ (slots : List Slot) (d : ℕ) (h : Handle) (held : slot_at slots d ≡ holding h) where
-  not-given : (n : ℕ) → lowest_free slots ≡ some n → d ≡ n → ⊥
-  not-given n free same = holding-not (sym held ∙ ap (slot_at slots) same ∙ lowest-free slots n free)
+  not-given : (n : ℕ) → lowest_free slots ≡ Some n → d ≡ n → ⊥
+  not-given n free same = cc (lowest-free slots n free)
 
   kept-beside : (n : ℕ) (s : Slot) → (d ≡ n → ⊥) → slot_at (set slots n s) d ≡ holding h
   kept-beside n s ne = slot-other slots n d s ne ∙ held
@@ -132,7 +132,7 @@ mark-stays image slots call d h held marked stays =
 
 -- a refused table
 shut : (d : ℕ) → slot_at (replicate 64 closed) d ≡ closed
-shut d = by (below_or d 64)
+shut d = by (cases_lt d 64)
   where
     by : (d < 64) ⊎ (64 ≤ d) → slot_at (replicate 64 closed) d ≡ closed
     by (inl h) = slot-below (replicate 64 closed) d h ∙ get_or-replicate 64 d closed closed h

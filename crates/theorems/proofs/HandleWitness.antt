@@ -1,13 +1,13 @@
 -- The theorems of `AnyHandle` put to use over the bench tree, so that they are no promises about nothing: (9,99) is out of range, (0,1) is good.
 -- One answer is the worked table's; the others come from the theorems. Assumes nothing.
+use Rattle.std.specs.Prelude.{Some}
 use mathlib.Core.Bool.{Bool, true, false}
 use mathlib.Core.List.{List, [], ◌∷◌}
-use mathlib.Core.Option.{some}
 use mathlib.Core.Path.{◌≡◌, refl, ap, ◌∙◌}
 use Prim.Native.Nat.{ℕ}
 use lib.ListN.{get_or}
-use Rattle.model.specs.Bytes.{field, field_bytes, part, has, contains, find, ascii}
-use Rattle.model.specs.Tree.{sizes_of, tree_of}
+use Rattle.model.specs.Bytes.{field, field_bytes, has, contains, find, ascii}
+use Rattle.model.specs.Tree.{tree_of}
 use Rattle.model.specs.Answers.{refusal, not_walked}
 use Rattle.model.specs.OpenHow.{flags_of, mode_of, padding_of, resolve_of, unknown_bit, tail_set, length_refused, mode_set, how_refused, O_DIRECTORY, BENEATH}
 use Rattle.model.specs.Path.{absolute, path_refused}
@@ -17,7 +17,8 @@ use Rattle.model.specs.Resolve.{Call, call_of, resolve}
 use Rattle.model.specs.Descriptors.{Slot, holding, handle_at, open_path, slot_at, denying, serve}
 use Rattle.model.specs.declared.Handle.{Handle}
 use Rattle.model.specs.declared.Errno.TheVariants.{Ebadf}
-use Rattle.model.proofs.BenchTree.{digit, hex_bytes, hex, bench_nodes, bench_mounts, bench_entries, bench, open_how, call_at, at, error, own_table, run}
+use Rattle.model.proofs.Computing.{of-trees, of-bench}
+use Rattle.model.proofs.BenchTree.{bench, open_how, call_at, at, error, own_table, run}
 use Rattle.model.proofs.WorkedTable.{worked}
 use Rattle.theorems.specs.AnyHandle.{Unchecked, Passing, StopsAtStart}
 use Rattle.theorems.proofs.AnyHandle.{any-handle, any-number, beneath-stops, marked-first}
@@ -40,7 +41,7 @@ pub record HandlesWitnessed : Type 0 where
   pub closed-refused : serve bench slots (open_path 2 false (ascii "/lab") (open_how 0 0)) ≡ denying slots Ebadf
   pub passing : (m n : ℕ) (marked : Bool) → Passing bench (lab m n marked BENEATH)
   pub stopped : StopsAtStart bench (lab 9 99 false BENEATH)
-  pub bad : handle_refused (tree_of bench) (lab 9 99 true BENEATH).handle ≡ some (refusal Ebadf not_walked)
+  pub bad : handle_refused (tree_of bench) (lab 9 99 true BENEATH).handle ≡ Some (refusal Ebadf not_walked)
   pub marked_refused : resolve bench (lab 9 99 true BENEATH) ≡ error Ebadf 0 0
 
 unchecked-lab : (m n : ℕ) → Unchecked (lab m n false 0)
@@ -56,8 +57,8 @@ passing-lab : (m n : ℕ) (marked : Bool) → Passing bench (lab m n marked BENE
 unfolding ascii has contains find field field_bytes flags_of mode_of padding_of resolve_of unknown_bit tail_set length_refused mode_set how_refused path_refused open_how
 passing-lab m n marked = record { table_passes = worked.bench-accepted; how_passes = refl; path_passes = refl }
 
-bad-lab : handle_refused (tree_of bench) (lab 9 99 true BENEATH).handle ≡ some (refusal Ebadf not_walked)
-unfolding handle_refused tree_of sizes_of field field_bytes part bench bench_nodes bench_mounts bench_entries digit hex_bytes hex ascii
+bad-lab : handle_refused (tree_of bench) (lab 9 99 true BENEATH).handle ≡ Some (refusal Ebadf not_walked)
+unfolding of-trees of-bench handle_refused
 bad-lab = refl
 
 far-lab : resolve bench (lab 9 99 false 0) ≡ at 0 1 1 0

@@ -1,9 +1,9 @@
 -- Demand 3 of opens put to use: pairs of opens over the bench tree that meet its premises.
+use Rattle.std.specs.Prelude.{Option, None, Some}
 use Prim.Native.Nat.{ℕ}
 use Prim.Native.String.{String}
 use mathlib.Core.Bool.{Bool, true, false}
 use mathlib.Core.List.{List}
-use mathlib.Core.Option.{Option, none, some}
 use mathlib.Core.Path.{◌≡◌}
 use lib.ListN.{set}
 use Rattle.model.specs.Bytes.{ascii}
@@ -43,13 +43,13 @@ adding marked bits path event first second = record {
 }
 
 abbrev pub escaping : TwoOpens
-escaping = adding true 0 ".." (some (Escape, counts 1 0)) (gives 1 0 0 1 0) (error Enoent 1 0)
+escaping = adding true 0 ".." (Some (Escape, counts 1 0)) (gives 1 0 0 1 0) (error Enoent 1 0)
 
 abbrev pub crossing : TwoOpens
-crossing = adding false NO_XDEV "lab/pool/run" (some (Cross, counts 2 0)) (gives 1 1 9 3 0) (error Exdev 2 0)
+crossing = adding false NO_XDEV "lab/pool/run" (Some (Cross, counts 2 0)) (gives 1 1 9 3 0) (error Exdev 2 0)
 
 abbrev pub unhindered : TwoOpens
-unhindered = adding true NO_SYMLINKS "lab/cal/tare" none (gives 1 0 3 3 0) (gives 1 0 3 3 0)
+unhindered = adding true NO_SYMLINKS "lab/cal/tare" None (gives 1 0 3 3 0) (gives 1 0 3 3 0)
 
 -- the slots of the second open
 abbrev pub then-slots : TwoOpens → List Slot

@@ -1,26 +1,21 @@
 -- Demand 3 of opens applied to opens over the bench tree. Only the first are computed: the second replies come from `opens-only-stop`.
 -- Assumes nothing.
+use Rattle.std.specs.Prelude.{Option, None, Some}
 use mathlib.Core.Bool.{true, false}
-use mathlib.Core.Option.{Option, none, some}
 use mathlib.Core.Path.{◌≡◌, refl, sym, ap, ◌∙◌}
 use Prim.Native.Nat.{◌≤◌}
 use lib.Dec.{lit<}
 use lib.ListN.{length}
-use Rattle.model.specs.Bytes.{field, field_bytes, part, has, contains, same_bytes, before, find, first_failing, ascii}
-use Rattle.model.specs.Tree.{sizes_of, nodes_part, mounts_part, entries_part, text_part, tree_of, is_directory, is_link, holds, lookup, meets_within, under, mount_on, covered}
-use Rattle.model.specs.TableCheck.{rule1, rule2, counts_fit, whole_length, rule3, directory_count, sum_below, counts_before, directory_holds, file_holds, symlink_holds, magic_holds, node_holds, rule4}
-use Rattle.model.specs.TableCheck.{name_holds, follows, ascends, stands_in_parent, entry_holds, rule5, point_holds, shares_point, hangs, mount_holds}
-use Rattle.model.specs.TableCheck.{rule6, target_holds, magic_target_holds, rule7, records_check, table_check}
-use Rattle.model.specs.OpenHow.{flags_of, mode_of, padding_of, resolve_of, unknown_bit, tail_set, length_refused, mode_set, how_refused, IN_ROOT}
-use Rattle.model.specs.Path.{up_to_slash, components_from, components, absolute, ends_in_slash, path_refused}
+use Rattle.model.specs.Bytes.{has}
+use Rattle.model.specs.Tree.{tree_of}
+use Rattle.model.specs.OpenHow.{resolve_of, IN_ROOT}
 use Rattle.model.specs.Handles.{handle_refused}
-use Rattle.model.specs.Trace.{beneath, Restrictions, meets, row, first_set, forbids, answer}
-use Rattle.model.specs.Walk.{same_place, root_of, point_of, enter, to_parent, climb, at_top, go_up, magic_link, symbolic_link, follow_link}
-use Rattle.model.specs.Walk.{step_to, by_name, one_component, finish, transition, walk_pending, walk, begin_at, walk_path}
-use Rattle.model.specs.Resolve.{handle_unchecked, refused_after_table, refused_before, restrictions, request_of, trace_of, resolve}
+use Rattle.model.specs.Trace.{beneath, Restrictions, forbids}
+use Rattle.model.specs.Resolve.{restrictions}
 use Rattle.model.specs.Answers.{refusal}
-use Rattle.model.specs.Descriptors.{holding, open_path, start, slot_at, lowest_free, asked_in_vain, serve}
-use Rattle.model.proofs.BenchTree.{digit, hex_bytes, hex, bench_nodes, bench_mounts, bench_entries, bench, open_how, handle_at}
+use Rattle.model.specs.Descriptors.{holding, open_path, start, slot_at, serve}
+use Rattle.model.proofs.Computing.{of-descriptors, of-bench}
+use Rattle.model.proofs.BenchTree.{bench, open_how, handle_at}
 use Rattle.model.proofs.WorkedTable.{worked}
 use Rattle.model.specs.Resolve.{Call, call_of}
 use Rattle.model.specs.declared.Errno.{Errno}
@@ -46,17 +41,17 @@ call' o = call_of o.handle o.path o.how
 
 -- what demand 3 makes of the first reply
 abbrev or_first : Option Errno → Meeting → Reply → Reply
-or_first none m first = first
-or_first (some e) m first = Refused (refusal e m.1)
+or_first None m first = first
+or_first (Some e) m first = Refused (refusal e m.1)
 
 abbrev demanded : Option Meeting → Restrictions → Reply → Reply
-demanded none now first = first
-demanded (some m) now first = or_first (forbids now m.0) m first
+demanded None now first = first
+demanded (Some m) now first = or_first (forbids now m.0) m first
 
 -- what is computed of two opens
 record Computed (o : TwoOpens) : Type 0 where
   held : slot_at (start bench) 0 ≡ holding top
-  good : handle_refused (tree_of bench) top ≡ none
+  good : handle_refused (tree_of bench) top ≡ None
   adds : Adds o.added (call o) (call' o)
   scope : 24 ≤ length (open_how 0 0) → o.added beneath ≡ true → has IN_ROOT (resolve_of (open_how 0 0)) ≡ false
   event : first_forbidden o.added (open_events bench false (call o)) ≡ o.event
@@ -69,18 +64,7 @@ record Rows : Type 0 where
   goes-unhindered : Computed unhindered
 
 rows : Rows
-unfolding field field_bytes part has contains same_bytes before find first_failing ascii
-    sizes_of nodes_part mounts_part entries_part text_part tree_of is_directory is_link holds lookup meets_within under mount_on covered
-    rule1 rule2 counts_fit whole_length rule3 directory_count sum_below counts_before directory_holds file_holds symlink_holds magic_holds node_holds rule4
-    name_holds follows ascends stands_in_parent entry_holds rule5 point_holds shares_point hangs mount_holds rule6 target_holds magic_target_holds rule7 records_check table_check
-    flags_of mode_of padding_of resolve_of unknown_bit tail_set length_refused mode_set how_refused
-    up_to_slash components_from components absolute ends_in_slash path_refused handle_refused
-    meets row first_set forbids answer
-    same_place root_of point_of enter to_parent climb at_top go_up magic_link symbolic_link follow_link
-    step_to by_name one_component finish transition walk_pending walk begin_at walk_path
-    handle_unchecked refused_after_table refused_before restrictions request_of trace_of resolve
-    digit hex_bytes hex bench_nodes bench_mounts bench_entries bench open_how
-    added_bits with_bits with_mark meetings events_of first_forbidden set_of start slot_at lowest_free asked_in_vain serve open_events
+unfolding of-descriptors of-bench added_bits with_bits with_mark meetings events_of first_forbidden set_of open_events
 rows = record {
   escapes = record { held = refl; good = refl; adds = setting-adds _ _ (lit< tt); scope = λ _ _. refl; event = refl; first = refl; second = refl };
   crosses = record { held = refl; good = refl; adds = setting-adds _ _ (lit< tt); scope = λ _ _. refl; event = refl; first = refl; second = refl };
@@ -103,8 +87,8 @@ module _ (o : TwoOpens) (k : Computed o) where
 
   by-demand-3 : (m : Option Meeting) → first_forbidden o.added (open_events bench false (call o)) ≡ m
       → demanded m (restrictions (call' o)) o.first ≡ o.second → then-reply ≡ o.second
-  by-demand-3 none e d = only.same e ∙ k.first ∙ d
-  by-demand-3 (some (m, p)) e d =
+  by-demand-3 None e d = only.same e ∙ k.first ∙ d
+  by-demand-3 (Some (m, p)) e d =
       let s = only.stopped m p e in
       s.2 ∙ sym (ap (λ (x : Option Errno). or_first x (m, p) o.first) s.1) ∙ d
 

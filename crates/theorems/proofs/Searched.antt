@@ -1,13 +1,14 @@
 -- The search by halving over an accepted table: it finds what the search name by name finds, and compares few names; and the bench tree as a table of
 -- which the premises hold. Assumes nothing.
+use Rattle.std.specs.Prelude.{Some}
 use Prim.Native.Nat.{◌≤◌}
-use mathlib.Core.Option.{some}
 use mathlib.Core.Path.{◌≡◌, refl}
 use native.Mathlib.Omega.{arith}
-use Rattle.model.specs.Bytes.{field, field_bytes, part, same_bytes, find, ascii}
-use Rattle.model.specs.Tree.{sizes_of, nodes_part, mounts_part, entries_part, text_part, tree_of, is_directory, lookup}
+use Rattle.model.specs.Bytes.{ascii}
+use Rattle.model.specs.Tree.{tree_of}
 use Rattle.model.specs.Halving.{halving, digits_within, binary_digits}
-use Rattle.model.proofs.BenchTree.{digit, hex_bytes, hex, bench_nodes, bench_mounts, bench_entries, bench}
+use Rattle.model.proofs.Computing.{of-trees, of-bench}
+use Rattle.model.proofs.BenchTree.{bench}
 use Rattle.model.proofs.WorkedTable.{worked}
 use Rattle.laws.proofs.Acceptance.{accepted-sound, accepted-sized, entries-inside}
 use Rattle.laws.proofs.HalvingLaws.{halving-lookup, halving-few, digits-most}
@@ -28,12 +29,11 @@ few-compared image accepted n directory name =
 
 -- "tare" in the bench tree's cal, which has six names
 pub record Tare : Type 0 where
-  pub found : (halving (tree_of bench) 2 (ascii "tare")).entry ≡ some 7
+  pub found : (halving (tree_of bench) 2 (ascii "tare")).entry ≡ Some 7
   pub few : (halving (tree_of bench) 2 (ascii "tare")).compared ≤ 3
 
 pub tare : Tare
-unfolding field field_bytes part same_bytes find ascii sizes_of nodes_part mounts_part entries_part text_part tree_of is_directory lookup
-    digits_within binary_digits digit hex_bytes hex bench_nodes bench_mounts bench_entries bench
+unfolding of-trees of-bench digits_within binary_digits
 tare = record {
   found = halving-finds bench worked.bench-accepted 2 refl (ascii "tare");
   few = halving-compares bench 2 (ascii "tare");

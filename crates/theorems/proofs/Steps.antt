@@ -1,8 +1,8 @@
 -- A walk's answer is that of its steps: the laws of one step under restrictions. Assumes nothing.
+use Rattle.std.specs.Prelude.{Option, None, Some}
 use Prim.Native.Nat.{ℕ, zero, suc, ◌+◌, ◌-◌, ◌<◌}
-use mathlib.Core.Bool.{true, false, ◌&&◌, true≢false, false≢true}
+use mathlib.Core.Bool.{true, false, ◌&&◌}
 use mathlib.Core.List.{List, [], ◌∷◌, ◌++◌}
-use mathlib.Core.Option.{Option, some, none}
 use mathlib.Core.Path.{◌≡◌, refl, ◌∙◌}
 use native.Mathlib.Omega.{arith}
 use lib.ListN.{length}
@@ -48,8 +48,8 @@ transition-spends a links c pending s =
 module _ (R : Restrictions) (a : Request) where
   refused-answer : (o : Option Errno) (s : State) (next : Onward) (later : Answer) → later ≡ answer_after R a next
       → refused_by o s.progress later ≡ answer_after R a (failed_by o s next)
-  refused-answer none s next later e = e
-  refused-answer (some n) s next later e = refl
+  refused-answer None s next later e = e
+  refused-answer (Some n) s next later e = refl
 
   module _ (links : ℕ) (pending : List Component) (on : State → Trace) (later : List Component → State → Trace)
       (goes_on : (s : State) → answer R (on s) ≡ answer_after R a (on_with links pending s))
@@ -98,8 +98,8 @@ restricted-cases : (P : Onward → Type 0) (R : Restrictions) (links : ℕ) (pen
 restricted-cases P R links pending t stopped next = by (forbid_any R t.events)
   where
     by : (o : Option Errno) → P (failed_by o t.met (next_by links pending t.turn))
-    by none = next
-    by (some e) = stopped e
+    by None = next
+    by (Some e) = stopped e
 
 on-with-ordered : (t : Tree) (links : ℕ) (pending : List Component) (s : State) → Inside t s.place → Room links (length pending) s → OrderedOnward t (on_with links pending s)
 on-with-ordered t links [] s i r = (i, room-bounded r)
@@ -161,9 +161,9 @@ module _ (R : Restrictions) (a : Request) where
 
 -- on with what is pending, by whether anything is
 pub on-with-more : (links : ℕ) (xs : List Component) (s : State) → is_empty xs ≡ false → on_with links xs s ≡ more (record { links = links; pending = xs; state = s })
-on-with-more links [] s e = absurd (true≢false e)
+on-with-more links [] s e = cc
 on-with-more links (x ∷ xs) s e = refl
 
 pub on-with-done : (links : ℕ) (xs : List Component) (s : State) → is_empty xs ≡ true → on_with links xs s ≡ done s
 on-with-done links [] s e = refl
-on-with-done links (x ∷ xs) s e = absurd (false≢true e)
+on-with-done links (x ∷ xs) s e = cc

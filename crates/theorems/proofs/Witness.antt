@@ -1,8 +1,8 @@
 -- Demand 3 put to use: pairs of calls over the bench tree that meet its premises, so that it is not a promise about nothing.
+use Rattle.std.specs.Prelude.{Option, None, Some}
 use Prim.Native.Nat.{ℕ, ◌+◌}
 use Prim.Native.String.{String}
 use mathlib.Core.Bool.{Bool, true, false}
-use mathlib.Core.Option.{Option, none, some}
 use mathlib.Core.Path.{◌≡◌}
 use Rattle.model.specs.Bytes.{has, ascii}
 use Rattle.model.specs.OpenHow.{NO_XDEV, NO_MAGICLINKS, NO_SYMLINKS, BENEATH}
@@ -47,21 +47,21 @@ counts c l = record { components = c; links = l }
 
 -- P2 and P3, P5 and P6, P7
 abbrev pub crossing : TwoCalls
-crossing = adding 0 false NO_XDEV "pool/run" (some (Cross, counts 1 0)) (at 1 9 2 0) (error Exdev 1 0)
+crossing = adding 0 false NO_XDEV "pool/run" (Some (Cross, counts 1 0)) (at 1 9 2 0) (error Exdev 1 0)
 
 abbrev pub escaping : TwoCalls
-escaping = adding 0 true 0 ".." (some (Escape, counts 1 0)) (at 0 0 1 0) (error Enoent 1 0)
+escaping = adding 0 true 0 ".." (Some (Escape, counts 1 0)) (at 0 0 1 0) (error Enoent 1 0)
 
 abbrev pub jumping : TwoCalls
-jumping = adding 0 false BENEATH "cal/abs" (some (Jump false, counts 2 0)) (at 0 3 5 1) (error Exdev 2 0)
+jumping = adding 0 false BENEATH "cal/abs" (Some (Jump false, counts 2 0)) (at 0 3 5 1) (error Exdev 2 0)
 
 -- the first is refused too, by another number
 abbrev pub refused_twice : TwoCalls
-refused_twice = adding BENEATH true 0 ".." (some (Escape, counts 1 0)) (error Exdev 1 0) (error Enoent 1 0)
+refused_twice = adding BENEATH true 0 ".." (Some (Escape, counts 1 0)) (error Exdev 1 0) (error Enoent 1 0)
 
 -- P1: nothing is met that the added ones forbid
 abbrev pub unhindered : TwoCalls
-unhindered = adding 0 true NO_XDEV "cal/tare" none (at 0 3 2 0) (at 0 3 2 0)
+unhindered = adding 0 true NO_XDEV "cal/tare" None (at 0 3 2 0) (at 0 3 2 0)
 
 -- demand 3 speaks of the two calls, and what it says of them
 pub record Applied (c : TwoCalls) : Type 0 where

@@ -1,24 +1,19 @@
 -- Demand 3 applied to calls over the bench tree. Only the first calls are computed: the second answers come from `demand-3`.
 -- Assumes nothing.
+use Rattle.std.specs.Prelude.{Option, None, Some}
 use mathlib.Core.Bool.{true, false}
-use mathlib.Core.Option.{Option, none, some}
 use mathlib.Core.Path.{◌≡◌, refl, sym, ap, ◌∙◌}
 use Prim.Native.Nat.{◌≤◌}
 use lib.Dec.{lit<}
 use lib.ListN.{length}
-use Rattle.model.specs.Bytes.{field, field_bytes, part, has, contains, same_bytes, before, find, first_failing, ascii}
-use Rattle.model.specs.Tree.{sizes_of, nodes_part, mounts_part, entries_part, text_part, tree_of, is_directory, is_link, holds, lookup, meets_within, under, mount_on, covered}
-use Rattle.model.specs.TableCheck.{rule1, rule2, counts_fit, whole_length, rule3, directory_count, sum_below, counts_before, directory_holds, file_holds, symlink_holds, magic_holds, node_holds, rule4}
-use Rattle.model.specs.TableCheck.{name_holds, follows, ascends, stands_in_parent, entry_holds, rule5, point_holds, shares_point, hangs, mount_holds}
-use Rattle.model.specs.TableCheck.{rule6, target_holds, magic_target_holds, rule7, records_check, table_check}
-use Rattle.model.specs.OpenHow.{flags_of, mode_of, padding_of, resolve_of, unknown_bit, tail_set, length_refused, mode_set, how_refused, IN_ROOT}
-use Rattle.model.specs.Path.{up_to_slash, components_from, components, absolute, ends_in_slash, path_refused}
+use Rattle.model.specs.Bytes.{has}
+use Rattle.model.specs.Tree.{tree_of}
+use Rattle.model.specs.OpenHow.{resolve_of, IN_ROOT}
 use Rattle.model.specs.Handles.{handle_refused}
-use Rattle.model.specs.Trace.{beneath, Restrictions, meets, row, first_set, forbids, refused_by, answer}
-use Rattle.model.specs.Walk.{same_place, root_of, point_of, enter, to_parent, climb, at_top, go_up, magic_link, symbolic_link, follow_link}
-use Rattle.model.specs.Walk.{step_to, by_name, one_component, finish, transition, walk_pending, walk, begin_at, walk_path}
-use Rattle.model.specs.Resolve.{handle_unchecked, refused_after_table, refused_before, restrictions, request_of, trace_of, resolve}
-use Rattle.model.proofs.BenchTree.{digit, hex_bytes, hex, bench_nodes, bench_mounts, bench_entries, bench, open_how}
+use Rattle.model.specs.Trace.{beneath, Restrictions, forbids, refused_by}
+use Rattle.model.specs.Resolve.{restrictions, resolve}
+use Rattle.model.proofs.Computing.{of-calls, of-bench}
+use Rattle.model.proofs.BenchTree.{bench}
 use Rattle.model.specs.declared.Errno.{Errno}
 use Rattle.model.specs.declared.Answer.{Answer}
 use Rattle.model.proofs.WorkedTable.{worked}
@@ -28,12 +23,12 @@ use Rattle.theorems.proofs.Demand3.{demand-3, setting-adds}
 
 -- what demand 3 makes of the first answer: the event refused under all restrictions now set
 abbrev demanded : Option Meeting → Restrictions → Answer → Answer
-demanded none now first = first
-demanded (some m) now first = refused_by (forbids now m.0) m.1 first
+demanded None now first = first
+demanded (Some m) now first = refused_by (forbids now m.0) m.1 first
 
 -- what is computed of two calls
 record Computed (c : TwoCalls) : Type 0 where
-  good : handle_refused (tree_of bench) c.call.handle ≡ none
+  good : handle_refused (tree_of bench) c.call.handle ≡ None
   adds : Adds c.added c.call c.call'
   scope : 24 ≤ length c.call.how → c.added beneath ≡ true → has IN_ROOT (resolve_of c.call.how) ≡ false
   event : first_forbidden c.added (events_of bench c.call) ≡ c.event
@@ -48,18 +43,7 @@ record Rows : Type 0 where
   goes-unhindered : Computed unhindered
 
 rows : Rows
-unfolding field field_bytes part has contains same_bytes before find first_failing ascii
-    sizes_of nodes_part mounts_part entries_part text_part tree_of is_directory is_link holds lookup meets_within under mount_on covered
-    rule1 rule2 counts_fit whole_length rule3 directory_count sum_below counts_before directory_holds file_holds symlink_holds magic_holds node_holds rule4
-    name_holds follows ascends stands_in_parent entry_holds rule5 point_holds shares_point hangs mount_holds rule6 target_holds magic_target_holds rule7 records_check table_check
-    flags_of mode_of padding_of resolve_of unknown_bit tail_set length_refused mode_set how_refused
-    up_to_slash components_from components absolute ends_in_slash path_refused handle_refused
-    meets row first_set forbids answer
-    same_place root_of point_of enter to_parent climb at_top go_up magic_link symbolic_link follow_link
-    step_to by_name one_component finish transition walk_pending walk begin_at walk_path
-    handle_unchecked refused_after_table refused_before restrictions request_of trace_of resolve
-    digit hex_bytes hex bench_nodes bench_mounts bench_entries bench open_how
-    added_bits with_bits with_mark meetings events_of first_forbidden set_of
+unfolding of-calls of-bench added_bits with_bits with_mark meetings events_of first_forbidden set_of
 rows = record {
   crosses = record { good = refl; adds = setting-adds _ _ (lit< tt); scope = λ _ _. refl; event = refl; first = refl; second = refl };
   escapes = record { good = refl; adds = setting-adds _ _ (lit< tt); scope = λ _ _. refl; event = refl; first = refl; second = refl };
@@ -78,8 +62,8 @@ module _ (c : TwoCalls) (k : Computed c) where
   by-demand-3 : (o : Option Meeting) → first_forbidden c.added (events_of bench c.call) ≡ o
       → demanded o (restrictions c.call') c.first ≡ c.second
       → resolve bench c.call' ≡ c.second
-  by-demand-3 none e d = only.same e ∙ k.first ∙ d
-  by-demand-3 (some (m, p)) e d =
+  by-demand-3 None e d = only.same e ∙ k.first ∙ d
+  by-demand-3 (Some (m, p)) e d =
       let s = only.stopped m p e in
       s.2 ∙ sym (ap (λ (o : Option Errno). refused_by o p c.first) s.1) ∙ d
 

@@ -1,8 +1,8 @@
 -- Demand 3 (RULES 12.3) in definitions: two calls of the resolver of which the second has restrictions added, and the events of the first.
-use Rattle.std.specs.Prelude.{ℕ, ◌+◌, ◌≤◌, ◌<◌, true, false, cond, ◌||◌, List, [], ◌∷◌, ◌⊎◌, ◌≡◌, length, get_or, set, ltb}
-use mathlib.Core.Option.{Option, none, some}
+use Rattle.std.specs.Prelude.{ℕ, ◌+◌, ◌≤◌, ◌<◌, true, false, cond, ◌||◌, List, [], ◌∷◌, ◌⊎◌, ◌≡◌, length, get_or, set, ltb, Option, None, Some, Ok}
 use Rattle.std.specs.Int.Bits.{bit_or}
-use Rattle.model.specs.Bytes.{has, is_some, if_none}
+use Rattle.std.specs.Option.{is_some}
+use Rattle.model.specs.Bytes.{has, if_none}
 use Rattle.model.specs.Tree.{tree_of}
 use Rattle.model.specs.TableCheck.{table_check}
 use Rattle.model.specs.OpenHow.{resolve_of, NO_XDEV, NO_MAGICLINKS, NO_SYMLINKS, BENEATH, IN_ROOT}
@@ -14,7 +14,6 @@ use Rattle.model.specs.declared.Progress.{Progress}
 use Rattle.model.specs.declared.Handle.{Handle}
 use Rattle.model.specs.declared.Errno.{Errno}
 use Rattle.model.specs.declared.Answer.{Answer}
-use Rattle.model.specs.declared.Verdict.TheVariants.{Accepted}
 
 -- the bits of resolve that stand for the added restrictions; the mark is no bit
 unfoldable pub added_bits : Restrictions → ℕ
@@ -50,8 +49,8 @@ Meeting = Event × Progress
 
 -- a meeting, and those after it unless the event is refused
 abbrev pub onward : Option Errno → Meeting → List Meeting → List Meeting
-onward none x later = x ∷ later
-onward (some e) x later = x ∷ []
+onward None x later = x ∷ later
+onward (Some e) x later = x ∷ []
 
 -- the events that a walk meets under a set of restrictions, in the order met; the one that it is refused at is the last
 unfoldable pub meetings : Restrictions → Trace → List Meeting
@@ -67,23 +66,23 @@ events_of image call =
 
 -- "the first event of that walk that an added one forbids" (RULES 12.3b)
 unfoldable pub first_forbidden : Restrictions → List Meeting → Option Meeting
-first_forbidden added [] = none
-first_forbidden added (x ∷ xs) = cond (is_some (forbids added x.0)) (some x) (first_forbidden added xs)
+first_forbidden added [] = None
+first_forbidden added (x ∷ xs) = cond (is_some (forbids added x.0)) (Some x) (first_forbidden added xs)
 
 -- Demand 3, of the answers of two calls: where the first meets no event that an added restriction forbids, "both answers are the
 -- same, place or error, counts included" (RULES 12.3a). Otherwise the second's answer is the error that RULES 10.3 gives this event "under
 -- all restrictions now set, with the counts reached there" (RULES 12.3b).
 pub record OnlyStops (added : Restrictions) (image : List ℕ) (call call' : Call) (first second : Answer) : Type 0 where
-  pub same : first_forbidden added (events_of image call) ≡ none → second ≡ first
-  pub stopped : (e : Event) (p : Progress) → first_forbidden added (events_of image call) ≡ some (e, p)
-      → (n : Errno) × (forbids (restrictions call') e ≡ some n) × (second ≡ refused n p)
+  pub same : first_forbidden added (events_of image call) ≡ None → second ≡ first
+  pub stopped : (e : Event) (p : Progress) → first_forbidden added (events_of image call) ≡ Some (e, p)
+      → (n : Errno) × (forbids (restrictions call') e ≡ Some n) × (second ≡ refused n p)
 
 -- "Take any accepted table, any good handle, any path and any open_how, whatever restrictions are already set and with IN_ROOT on
 -- or off. Add any of NO_XDEV, NO_MAGICLINKS, NO_SYMLINKS, the below mark and, with IN_ROOT off, BENEATH, and keep all else alike." (RULES 12.3)
 -- "A handle is good if none of the handle checks would refuse it." (RULES 7.6)
 pub record Added (added : Restrictions) (image : List ℕ) (call call' : Call) : Type 0 where
-  pub accepted : table_check image ≡ Accepted
-  pub good : handle_refused (tree_of image) call.handle ≡ none
+  pub accepted : table_check image ≡ Ok tt
+  pub good : handle_refused (tree_of image) call.handle ≡ None
   pub adds : Adds added call call'
   pub scope : 24 ≤ length call.how → added beneath ≡ true → has IN_ROOT (resolve_of call.how) ≡ false
 

@@ -1,6 +1,5 @@
 -- What an absolute path owes to the handle (RULES 7.5, 12.11): nothing, where it is not checked.
-use Rattle.std.specs.Prelude.{ℕ, Bool, true, false, List, [], ◌∷◌, ◌≡◌}
-use mathlib.Core.Option.{none, some}
+use Rattle.std.specs.Prelude.{ℕ, Bool, true, false, List, [], ◌∷◌, ◌≡◌, None, Some, Ok}
 use Rattle.model.specs.Bytes.{has}
 use Rattle.model.specs.Tree.{tree_of}
 use Rattle.model.specs.TableCheck.{table_check}
@@ -15,7 +14,6 @@ use Rattle.model.specs.declared.Handle.{Handle}
 use Rattle.model.specs.declared.Refusal.{Refusal}
 use Rattle.model.specs.declared.Errno.TheVariants.{Exdev}
 use Rattle.model.specs.declared.Answer.TheVariants.{Refused}
-use Rattle.model.specs.declared.Verdict.TheVariants.{Accepted}
 use Rattle.theorems.specs.Adding.{events_of}
 
 -- "with an absolute path, no IN_ROOT and no mark"
@@ -37,9 +35,9 @@ AnyNumber = (image : List ℕ) (slots : List Slot) (d e : ℕ) (marked : Bool) (
 
 -- table, open_how and path are not refused; the handle may be any
 pub record Passing (image : List ℕ) (call : Call) : Type 0 where
-  pub table_passes : table_check image ≡ Accepted
-  pub how_passes : how_refused call.how ≡ none
-  pub path_passes : path_refused call.path ≡ none
+  pub table_passes : table_check image ≡ Ok tt
+  pub how_passes : how_refused call.how ≡ None
+  pub path_passes : path_refused call.path ≡ None
 
 -- "meets EXDEV at Start": with both counts 0, no other event, and no place stood on
 pub record StopsAtStart (image : List ℕ) (call : Call) : Type 0 where
@@ -55,4 +53,4 @@ BeneathStops = (image : List ℕ) (call : Call) → Passing image call → absol
 -- "A marked handle is still checked first": a bad one refuses such a call by its own number, be the path absolute or not
 abbrev pub MarkedFirst : Type 0
 MarkedFirst = (image : List ℕ) (call : Call) → Passing image call → call.handle.mark ≡ true
-    → (r : Refusal) → handle_refused (tree_of image) call.handle ≡ some r → resolve image call ≡ Refused r
+    → (r : Refusal) → handle_refused (tree_of image) call.handle ≡ Some r → resolve image call ≡ Refused r

@@ -1,8 +1,7 @@
 -- What holds of the descriptor table (RULES 17), call by call and between two calls.
-use Rattle.std.specs.Prelude.{ℕ, ◌<◌, Bool, true, false, cond, List, [], map, ◌≡◌, set}
-use mathlib.Core.Option.{none, some}
+use Rattle.std.specs.Prelude.{ℕ, ◌<◌, Bool, true, false, cond, List, [], map, ◌≡◌, set, None, Some}
 use Rattle.model.specs.Answers.{refusal, not_walked}
-use Rattle.model.specs.TableCheck.{table_check}
+use Rattle.model.specs.TableCheck.{table_check, broken}
 use Rattle.model.specs.Trace.{Event, Restrictions, forbids}
 use Rattle.model.specs.Resolve.{Call, call_of, restrictions, resolve}
 use Rattle.model.specs.Descriptors.{Slot, closed, holding, DescriptorCall, open_path, close, set_mark, handle_at, start, slot_at}
@@ -18,7 +17,6 @@ use Rattle.model.specs.declared.Reached.{Reached}
 use Rattle.model.specs.declared.Refusal.{Refusal}
 use Rattle.model.specs.declared.Reply.{Reply}
 use Rattle.model.specs.declared.Reply.TheVariants.{Opened, Duplicated, Refused as Reply-refused}
-use Rattle.model.specs.declared.Verdict.TheVariants.{Broken}
 use Rattle.theorems.specs.Adding.{Meeting, events_of, first_forbidden, Added}
 
 -- a descriptor that is open
@@ -28,7 +26,7 @@ IsOpen slots d = slot_at slots d ≡ closed → ⊥
 -- "Demands 2 and 3 read the handle held in the slot at that call." (RULES 17.13): what an open comes to, by the resolver's answer
 pub record Resolved (slots : List Slot) (marked : Bool) (a : Answer) (s : Served) : Type 0 where
   pub refused : (r : Refusal) → a ≡ Refused r → s ≡ refusing slots r
-  pub opened : (r : Reached) (n : ℕ) → a ≡ Found r → lowest_free slots ≡ some n
+  pub opened : (r : Reached) (n : ℕ) → a ≡ Found r → lowest_free slots ≡ Some n
       → s ≡ record { reply = Opened (record { number = n; reached = r }); slots = set slots n (holding (handle_at r.place marked)) }
   pub full : (r : Reached) → a ≡ Found r → ((e : ℕ) → e < 64 → IsOpen slots e) → s ≡ denying slots Emfile
 
@@ -71,7 +69,7 @@ MarkStays =
 -- "none, if the table is refused" (RULES 17.2): then every call is EBADF, and nothing is ever open
 abbrev pub NothingOpen : Type 0
 NothingOpen =
-    (image : List ℕ) (rule r : ℕ) → table_check image ≡ Broken rule r → (calls : List DescriptorCall)
+    (image : List ℕ) (rule r : ℕ) → table_check image ≡ broken rule r → (calls : List DescriptorCall)
     → (replies_to image (start image) calls ≡ map (λ call. Reply-refused (refusal Ebadf not_walked)) calls) × (slots_after image (start image) calls ≡ start image)
 
 -- Demand 3 (RULES 12.3) of two opens: of the same number, path and wish for the mark, the second through a handle or with an open_how to which
@@ -87,9 +85,9 @@ open_events image marked call = cond (asked_in_vain marked call.how) [] (events_
 
 -- of the two replies: the same, number included, or the refusal of the first event that an added restriction forbids
 pub record RepliesOnlyStop (added : Restrictions) (image : List ℕ) (marked : Bool) (call call' : Call) (first second : Reply) : Type 0 where
-  pub same : first_forbidden added (open_events image marked call) ≡ none → second ≡ first
-  pub stopped : (e : Event) (p : Progress) → first_forbidden added (open_events image marked call) ≡ some (e, p)
-      → (n : Errno) × (forbids (restrictions call') e ≡ some n) × (second ≡ Reply-refused (refusal n p))
+  pub same : first_forbidden added (open_events image marked call) ≡ None → second ≡ first
+  pub stopped : (e : Event) (p : Progress) → first_forbidden added (open_events image marked call) ≡ Some (e, p)
+      → (n : Errno) × (forbids (restrictions call') e ≡ Some n) × (second ≡ Reply-refused (refusal n p))
 
 abbrev pub OpensOnlyStop : Type 0
 OpensOnlyStop =

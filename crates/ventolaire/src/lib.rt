@@ -7,7 +7,6 @@ ghost use Rattle.std.specs.Prelude.{List, ◌≡◌, ℕ, length};
 ghost use Rattle.model.specs.Answers.{verdict_numbers};
 ghost use Rattle.model.specs.TableCheck.{table_check};
 ghost use Rattle.model.specs.Descriptors.{open_path, duplicate, close, set_mark, start, serve};
-ghost use Rattle.model.specs.declared.Verdict.TheVariants.{Accepted};
 ghost use Rattle.slots.specs.Slots.{slots_by};
 ghost use Rattle.builder.specs.Counted.{parts_by};
 ghost use Rattle.ventolaire.specs.Written.{call_by, errnos_for, Writes, WritesAnswer, WritesLookup, WritesBuilt, PartsStay, WritesStart, WritesReply, Stay};
@@ -17,7 +16,7 @@ use descriptor_table::{close, duplicate, set_mark};
 use descriptors::{open, open_accepted, start, start_accepted};
 use lookup::{lookup, lookup_accepted};
 use model::{Errno, Handle};
-use numbers::{errno_number, put_answer, put_built, put_lookup, put_reply, put_verdict};
+use numbers::{put_answer, put_built, put_lookup, put_reply, put_verdict};
 use resolver::{resolve, resolve_accepted};
 use slots::DESCRIPTORS;
 use table::check;
@@ -68,7 +67,7 @@ pub fn ventolaire_resolve_accepted<'a>(
     how: &[u8],
     out: &mut [u64],
 ) -> usize
-    requires { table_check image.now ≡ Accepted }
+    requires { table_check image.now ≡ Ok tt }
     ensures { WritesAnswer image.now (call_by mount node mark path.now how.now)
         image.exit.now (call_by mount node mark path.exit.now how.exit.now) out.old out.new result }
 {
@@ -97,7 +96,7 @@ pub fn ventolaire_lookup(image: &[u8], node: u64, name: &[u8], out: &mut [u64]) 
 
 // The same in an image that `ventolaire_check` accepted and that has not changed since, without the table check.
 pub fn ventolaire_lookup_accepted(image: &[u8], node: u64, name: &[u8], out: &mut [u64]) -> usize
-    requires { table_check image.now ≡ Accepted }
+    requires { table_check image.now ≡ Ok tt }
     ensures { WritesLookup image.now node name.now image.exit.now name.exit.now out.old out.new result }
 {
     if out.len() < 4 {
@@ -128,8 +127,25 @@ pub fn ventolaire_build(
     4
 }
 
+// The numbers of the errnos, in the order in which they are declared.
+const ERRNOS: [u64; 12] = [
+    Errno::Euclean as u64,
+    Errno::E2big as u64,
+    Errno::Einval as u64,
+    Errno::Enametoolong as u64,
+    Errno::Enoent as u64,
+    Errno::Ebadf as u64,
+    Errno::Enotdir as u64,
+    Errno::Eloop as u64,
+    Errno::Exdev as u64,
+    Errno::Emfile as u64,
+    Errno::Enotty as u64,
+    Errno::Erange as u64,
+];
+
 // The numbers of the errnos, in the order in which they are declared. An array with room for the first
-// eleven alone gets these, and one with room for the first nine alone gets those.
+// eleven alone gets these, and one with room for the first nine alone gets those. By three copies of fixed lengths: one of any length would call
+// memcpy, which the header doesn't ask for.
 pub fn ventolaire_errnos(out: &mut [u64]) -> usize
     ensures { Writes (errnos_for (length out.old)) out.old out.new result }
 {
@@ -137,24 +153,15 @@ pub fn ventolaire_errnos(out: &mut [u64]) -> usize
     if room < 9 {
         return 0;
     }
-    out[0] = errno_number(Errno::Euclean);
-    out[1] = errno_number(Errno::E2big);
-    out[2] = errno_number(Errno::Einval);
-    out[3] = errno_number(Errno::Enametoolong);
-    out[4] = errno_number(Errno::Enoent);
-    out[5] = errno_number(Errno::Ebadf);
-    out[6] = errno_number(Errno::Enotdir);
-    out[7] = errno_number(Errno::Eloop);
-    out[8] = errno_number(Errno::Exdev);
     if room < 11 {
+        out[..9].copy_from_slice(&ERRNOS[..9]);
         return 9;
     }
-    out[9] = errno_number(Errno::Emfile);
-    out[10] = errno_number(Errno::Enotty);
     if room < 12 {
+        out[..11].copy_from_slice(&ERRNOS[..11]);
         return 11;
     }
-    out[11] = errno_number(Errno::Erange);
+    out[..12].copy_from_slice(&ERRNOS);
     12
 }
 
@@ -171,7 +178,7 @@ pub fn ventolaire_start(image: &[u8], slots: &mut [u64; DESCRIPTORS], out: &mut 
 
 // Descriptors as they start, over an image that `ventolaire_check` accepted and that has not changed since.
 pub fn ventolaire_start_accepted(image: &[u8], slots: &mut [u64; DESCRIPTORS])
-    requires { table_check image.now ≡ Accepted }
+    requires { table_check image.now ≡ Ok tt }
     ensures { (slots_by slots.new ≡ start image.now) × (image.exit.now ≡ image.entry.now) }
 {
     start_accepted(image, slots);
@@ -208,7 +215,7 @@ pub fn ventolaire_open_accepted<'a>(
     how: &[u8],
     out: &mut [u64],
 ) -> usize
-    requires { table_check image.now ≡ Accepted }
+    requires { table_check image.now ≡ Ok tt }
     ensures { WritesReply (serve image.now (slots_by slots.old) (open_path number mark path.now how.now))
         slots.old slots.new out.old out.new result
         × Stay image.now path.now how.now image.exit.now path.exit.now how.exit.now }

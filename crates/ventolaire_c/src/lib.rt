@@ -5,7 +5,6 @@ ghost use Rattle.std.specs.Prelude.{List, ◌≡◌, ℕ, length};
 ghost use Rattle.model.specs.Answers.{verdict_numbers};
 ghost use Rattle.model.specs.TableCheck.{table_check};
 ghost use Rattle.model.specs.Descriptors.{open_path, duplicate, close, set_mark, start, serve};
-ghost use Rattle.model.specs.declared.Verdict.TheVariants.{Accepted};
 ghost use Rattle.slots.specs.Slots.{slots_by};
 ghost use Rattle.builder.specs.Counted.{parts_by};
 ghost use Rattle.ventolaire.specs.Written.{call_by, errnos_for, Writes, WritesAnswer, WritesLookup, WritesBuilt, PartsStay, WritesStart, WritesReply, Stay};
@@ -48,7 +47,7 @@ pub extern "C" fn ventolaire_resolve_accepted<'a>(
     how: &[u8],
     out: &mut [u64],
 ) -> usize
-    requires { table_check image.now ≡ Accepted }
+    requires { table_check image.now ≡ Ok tt }
     ensures { WritesAnswer image.now (call_by mount node mark path.now how.now)
         image.exit.now (call_by mount node mark path.exit.now how.exit.now) out.old out.new result }
 {
@@ -71,7 +70,7 @@ pub extern "C" fn ventolaire_lookup_accepted(
     name: &[u8],
     out: &mut [u64],
 ) -> usize
-    requires { table_check image.now ≡ Accepted }
+    requires { table_check image.now ≡ Ok tt }
     ensures { WritesLookup image.now node name.now image.exit.now name.exit.now out.old out.new result }
 {
     ventolaire::ventolaire_lookup_accepted(image, node, name, out)
@@ -119,7 +118,7 @@ pub extern "C" fn ventolaire_start(
 // Descriptors as they start, over an image that `ventolaire_check` accepted and that has not changed since.
 #[unsafe(no_mangle)]
 pub extern "C" fn ventolaire_start_accepted(image: &[u8], slots: &mut [u64; DESCRIPTORS])
-    requires { table_check image.now ≡ Accepted }
+    requires { table_check image.now ≡ Ok tt }
     ensures { (slots_by slots.new ≡ start image.now) × (image.exit.now ≡ image.entry.now) }
 {
     ventolaire::ventolaire_start_accepted(image, slots);
@@ -154,7 +153,7 @@ pub extern "C" fn ventolaire_open_accepted<'a>(
     how: &[u8],
     out: &mut [u64],
 ) -> usize
-    requires { table_check image.now ≡ Accepted }
+    requires { table_check image.now ≡ Ok tt }
     ensures { WritesReply (serve image.now (slots_by slots.old) (open_path number mark path.now how.now))
         slots.old slots.new out.old out.new result
         × Stay image.now path.now how.now image.exit.now path.exit.now how.exit.now }

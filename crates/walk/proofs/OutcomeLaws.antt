@@ -113,10 +113,10 @@ module _ {s path stack : List ℕ} {k : Request} {c : Counts} {w : Walk} {last :
       ap₂ ◌++◌ (ap (λ xs. left n xs (slashes ((tree_of s).body n))) body-text ∙ sym (left-start n ((tree_of s).body n))) e
 
   -- by what was read of it: whether it ends in a slash, where its first component starts, and the state behind it
-  module _ {x : List ℕ} (body_is : x ≡ (tree_of s).body n) {ends slash : Bool} (ends_is : ends ≡ ends_in_slash x) (slash-is : slash ≡ last && ends)
+  module _ {x : List ℕ} (body_is : x ≡ (tree_of s).body n) {slash : Bool} (slash-is : slash ≡ last && ends_in_slash x)
       {start : ℕ} (start_is : start ≡ past_slashes x 0) {st : State} (st-is : st ≡ followed_to p slash w.state) where
     state_is : st ≡ followed_to p (slash_of s path stack w n) w.state
-    state_is = st-is ∙ ap (λ (y : Bool). followed_to p y w.state) (slash-is ∙ ap₂ ◌&&◌ b.last_is (ends_is ∙ ap ends_in_slash body_is))
+    state_is = st-is ∙ ap (λ (y : Bool). followed_to p y w.state) (slash-is ∙ ap₂ ◌&&◌ b.last_is (ap ends_in_slash body_is))
 
     first-is : start ≡ slashes ((tree_of s).body n)
     first-is = start_is ∙ start-past x ∙ ap slashes body_is

@@ -1,8 +1,8 @@
 -- One component: from a walk that stands at one to the walk behind it. Assumes nothing.
+use Rattle.std.specs.Prelude.{Option, None, Some}
 use Prim.Native.Nat.{ℕ, ◌-◌, ◌≤◌, ◌<◌}
 use mathlib.Core.Bool.{Bool, true, false, not, ◌&&◌}
 use mathlib.Core.List.{List, ◌∷◌, ◌++◌}
-use mathlib.Core.Option.{Option, some, none}
 use mathlib.Core.Path.{◌≡◌, sym, ap, ap₂, ◌∙◌, subst, subst₂}
 use native.Mathlib.Omega.{arith}
 use borrow.Author.Tests.{ltb-true, eqb-true, eqb-false, not-true, not-false}
@@ -40,8 +40,8 @@ use Rattle.walk.proofs.PendingLaws.{pending-empty, leads-to}
 
 -- where a step leads is in the tree, whatever the restrictions
 stop-inside : (t : Tree) (links : ℕ) (o : Option Errno) (x : Outcome) → OutcomeInside t links x → OutcomeInside t links (stop_or o x)
-stop-inside t links none x h = h
-stop-inside t links (some e) x h = tt
+stop-inside t links None x h = h
+stop-inside t links (Some e) x h = tt
 
 landing-inside : (t : Tree) (links : ℕ) (l : Landing) → links < 40 → LandingInside t l → OutcomeInside t links (landing_outcome l)
 landing-inside t links outside few h = tt

@@ -1,8 +1,8 @@
 -- The definitions' step at one component, as what the component's outcome leads to. Assumes nothing.
+use Rattle.std.specs.Prelude.{Option, None, Some}
 use Prim.Native.Nat.{ℕ, zero, suc, ◌-◌, ◌≤◌}
 use mathlib.Core.Bool.{true, false}
 use mathlib.Core.List.{List, ◌∷◌}
-use mathlib.Core.Option.{Option, some, none}
 use mathlib.Core.Path.{◌≡◌, refl, ap, ◌∙◌}
 use native.Mathlib.Omega.{arith}
 use borrow.Author.Tests.{lt-ltb}
@@ -24,8 +24,8 @@ module _ (R : Restrictions) (a : Request) where
   after_stop : (links : ℕ) (cs : List Component) (s : State) (o : Option Errno) (x : Outcome)
       → failed_by o s (after_outcome a.tree links cs s x) ≡ after_outcome a.tree links cs s (stop_or o x)
   unfolding after_outcome
-  after_stop links cs s none x = refl
-  after_stop links cs s (some n) x = refl
+  after_stop links cs s None x = refl
+  after_stop links cs s (Some n) x = refl
 
   landed : (links : ℕ) (l : Landing) (cs : List Component) (s : State)
       → next_by links cs (land a l cs s) ≡ after_outcome a.tree links cs s (landing_outcome l)

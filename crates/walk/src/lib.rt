@@ -2,21 +2,18 @@
 #![tactic(auto)]
 
 ghost use Rattle.std.specs.Prelude.{◌&&◌, ◌≡◌, eqb, ◌≤◌, ◌<◌};
-ghost use Rattle.request.specs.Walking.{Walking};
-ghost use Rattle.image.specs.Counts.{Counted};
 ghost use Rattle.walk.specs.OpenTexts.{rest, Resting, Ready, Advanced, Behind, Proceeded, Entered, Stepped};
 
 use component::{Outcome, take_component};
-use image::records::node_kind;
-use image::texts::body;
+use image::Image;
 use model::{Answer, Errno, Place, State};
-use parts::records::Counts;
 use reader::{at_end, next_component};
-use request::Request;
+use request::Scope;
 use state::{finish, followed_to, standing_on, stop, taken};
 use text::{ends_in_slash, name_of, skip_slashes, text_of};
 
 // A walk between two components: its state, the text that it reads and where in it, and how many texts are suspended behind that.
+// The stack that holds these is lent beside it: a walk is a plain value, which the compiler keeps in registers from one component to the next.
 #[derive(Clone, Copy)]
 pub struct Walk {
     pub state: State,
@@ -39,140 +36,97 @@ const POSITIONS: usize = 4096;
 
 // After a component: on in the same text, back in the one suspended last, or at the end. A suspended text has a component left, so
 // one step back is enough.
-fn advance<'a>(image: &'a [u8], c: Counts, path: &'a [u8], stack: &[u32], w: Walk) -> Next
-    requires { Counted image.now c × Resting image.now path.now stack.now w }
-    ensures { Advanced image.now path.now stack.now w result }
+fn advance(image: Image<'_>, path: &[u8], stack: &[u32], w: Walk) -> Next
+    requires { Resting image.bytes.now path.now stack.now w }
+    ensures { Advanced image.entry.bytes.now path.now stack.now w result }
 {
-    let depth = w.depth;
-    let here = text_of(image, c, path, w.text);
+    let here = text_of(image, path, w.text);
     if !at_end(here, w.at) {
         return Next::More(w);
     }
-    let state = w.state;
-    if depth == 0 {
-        return Next::Done(state);
+    if w.depth == 0 {
+        return Next::Done(w.state);
     }
-    let v = stack[depth - 1] as usize;
+    let depth = w.depth - 1;
+    let v = stack[depth] as usize;
     Next::More(Walk {
-        state,
         text: v / POSITIONS,
         at: v % POSITIONS,
-        depth: depth - 1,
+        depth,
+        ..w
     })
 }
 
-fn both(a: bool, b: bool) -> bool
-    ensures { result ≡ a && b }
-{
-    if a {
-        return b;
-    }
-    false
-}
-
 // Starts on the body of a link, at its first component; what is left of the present text is suspended, if anything is.
-fn enter_body<'a>(
-    image: &'a [u8],
-    c: Counts,
-    path: &'a [u8],
+fn enter_body(
+    image: Image<'_>,
+    path: &[u8],
     stack: &mut [u32],
     w: Walk,
     s: State,
     n: usize,
     start: usize,
 ) -> Walk
-    requires { Counted image.now c × Resting image.now path.now stack.old w × (w.depth < 40) × (n ≤ 65535) }
-    ensures { Entered image.now path.now stack.old w s n start stack.new result }
+    requires { Resting image.bytes.now path.now stack.old w × (w.depth < 40) × (n ≤ 65535) }
+    ensures { Entered image.entry.bytes.now path.now stack.old w s n start stack.new result }
 {
-    let depth = w.depth;
-    let text = w.text;
-    let at = w.at;
-    let here = text_of(image, c, path, text);
-    if !at_end(here, at) {
-        stack[depth] = (text * POSITIONS + at) as u32;
-        return Walk {
-            state: s,
-            text: n,
-            at: start,
-            depth: depth + 1,
-        };
-    }
-    Walk {
+    let body = Walk {
         state: s,
         text: n,
         at: start,
-        depth,
+        ..w
+    };
+    let here = text_of(image, path, w.text);
+    if !at_end(here, w.at) {
+        stack[w.depth] = (w.text * POSITIONS + w.at) as u32;
+        return Walk {
+            depth: w.depth + 1,
+            ..body
+        };
     }
+    body
 }
 
 // Reads the body of a symbolic link from a place. A body of slashes alone has no component: the walk goes on behind the link.
-fn read_body<'a>(
-    image: &'a [u8],
-    c: Counts,
-    k: Request,
-    path: &'a [u8],
+fn read_body(
+    k: Scope<'_>,
+    path: &[u8],
     stack: &mut [u32],
     w: Walk,
     last: bool,
     n: usize,
     p: Place,
 ) -> Next
-    requires { Behind image.now c k path.now stack.old w last (Outcome.Read n p) }
-    ensures { Proceeded image.now path.now stack.old w (Outcome.Read n p) stack.new result }
+    requires { Behind k.table.image.bytes.now k.table.image.counts k.request path.now stack.old w last (Outcome.Read n p) }
+    ensures { Proceeded k.entry.table.image.bytes.now path.now stack.old w (Outcome.Read n p) stack.new result }
 {
-    let text = body(image, c, n);
-    let slash = both(last, ends_in_slash(text));
+    let image = k.table.image;
+    let text = image.body(n);
+    let slash = last && ends_in_slash(text);
     let start = skip_slashes(text, 0);
     let state = followed_to(p, slash, w.state);
     if start == text.len() {
-        let at = w.at;
-        let behind = Walk {
-            state,
-            text: w.text,
-            at,
-            depth: w.depth,
-        };
-        return advance(image, c, path, stack, behind);
+        return advance(image, path, stack, Walk { state, ..w });
     }
-    Next::More(enter_body(image, c, path, stack, w, state, n, start))
+    Next::More(enter_body(image, path, stack, w, state, n, start))
 }
 
 // What an outcome comes to; `w` has taken the component and stands behind it.
-fn proceed<'a>(
-    image: &'a [u8],
-    c: Counts,
-    k: Request,
-    path: &'a [u8],
-    stack: &mut [u32],
-    w: Walk,
-    last: bool,
-    o: Outcome,
-) -> Next
-    requires { Behind image.now c k path.now stack.old w last o }
-    ensures { Proceeded image.now path.now stack.old w o stack.new result }
+fn proceed(k: Scope<'_>, path: &[u8], stack: &mut [u32], w: Walk, last: bool, o: Outcome) -> Next
+    requires { Behind k.table.image.bytes.now k.table.image.counts k.request path.now stack.old w last o }
+    ensures { Proceeded k.entry.table.image.bytes.now path.now stack.old w o stack.new result }
 {
-    let state = w.state;
     match o {
-        Outcome::Stop(errno) => Next::Failed(errno, state),
+        Outcome::Stop(errno) => Next::Failed(errno, w.state),
         Outcome::Go(p) => {
-            let on = Walk {
-                state: standing_on(p, state),
-                text: w.text,
-                at: w.at,
-                depth: w.depth,
-            };
-            advance(image, c, path, stack, on)
+            let state = standing_on(p, w.state);
+            advance(k.table.image, path, stack, Walk { state, ..w })
         }
         Outcome::Target(p) => {
-            let on = Walk {
-                state: followed_to(p, false, state),
-                text: w.text,
-                at: w.at,
-                depth: w.depth,
-            };
-            advance(image, c, path, stack, on)
+            let state = followed_to(p, false, w.state);
+            advance(k.table.image, path, stack, Walk { state, ..w })
         }
-        Outcome::Read(n, p) => read_body(image, c, k, path, stack, w, last, n, p),
+        Outcome::Read(n, p) => read_body(k, path, stack, w, last, n, p),
     }
 }
 
@@ -189,66 +143,40 @@ fn names(kind: usize) -> bool
 
 impl Walk {
     // One component: what the result stands for is the definitions' step of what the walk stood for.
-    pub fn step<'a>(
-        self,
-        image: &'a [u8],
-        c: Counts,
-        k: Request,
-        path: &'a [u8],
-        stack: &mut [u32],
-    ) -> Next
-        requires { Walking image.now c k × Ready image.now path.now stack.old self }
-        ensures { Stepped image.now k path.now stack.old self stack.new result }
+    pub fn step(self, k: Scope<'_>, path: &[u8], stack: &mut [u32]) -> Next
+        requires { Ready k.table.image.bytes.now path.now stack.old self }
+        ensures { Stepped k.entry.table.image.bytes.now k.entry.request path.now stack.old self stack.new result }
     {
         let state = self.state;
-        let place = state.place;
-        let progress = state.progress;
-        if !names(node_kind(image, place.node)) {
+        let image = k.table.image;
+        if !names(image.node_kind(state.place.node)) {
             return Next::Failed(Errno::Enotdir, state);
         }
-        let at = self.at;
-        let depth = self.depth;
-        let here = text_of(image, c, path, self.text);
-        let span = next_component(here, at);
-        let next = span.next;
-        let last = both(at_end(here, next), depth == 0);
-        let name = name_of(image, c, path, self.text, at, span.end);
-        let o = take_component(image, c, k, last, progress.links, place, name);
+        let here = text_of(image, path, self.text);
+        let span = next_component(here, self.at);
+        let last = at_end(here, span.next) && self.depth == 0;
+        let name = name_of(image, path, self.text, self.at, span.end);
+        let o = take_component(k, last, state.progress.links, state.place, name);
         let behind = Walk {
             state: taken(state),
-            text: self.text,
-            at: next,
-            depth,
+            at: span.next,
+            ..self
         };
-        proceed(image, c, k, path, stack, behind, last, o)
+        proceed(k, path, stack, behind, last, o)
     }
 }
 
 // All components, one after the other. What the stack holds at the end is left free: it is the walk's own, and no answer shows it.
-pub fn run<'a>(
-    image: &'a [u8],
-    c: Counts,
-    k: Request,
-    path: &'a [u8],
-    w: Walk,
-    stack: &mut [u32],
-) -> Answer
-    requires { Walking image.now c k × Ready image.now path.now stack.old w }
-    ensures { result ≡ rest image.now k path.now stack.old w }
+pub fn run(k: Scope<'_>, path: &[u8], w: Walk, stack: &mut [u32]) -> Answer
+    requires { Ready k.table.image.bytes.now path.now stack.old w }
+    ensures { result ≡ rest k.entry.table.image.bytes.now k.entry.request path.now stack.old w }
 {
     let mut at = w;
     loop {
-        let next = at.step(image, c, k, path, stack);
-        match next {
-            Next::More(on) => {
-                at = on;
-            }
-            Next::Done(end) => {
-                return finish(image, c, k, end);
-            }
-            Next::Failed(errno, end) => {
-                return stop(errno, end.progress);
-            }
+        match at.step(k, path, stack) {
+            Next::More(on) => at = on,
+            Next::Done(end) => return finish(k, end),
+            Next::Failed(errno, end) => return stop(errno, end.progress),
         }
     }
 }

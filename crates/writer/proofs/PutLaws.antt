@@ -1,40 +1,51 @@
 -- What stores leave: fields, and the part of a copy that is done. Assumes nothing.
-use Prim.Native.Nat.{ℕ, suc, ◌+◌, ◌-◌, ◌*◌, ◌/◌, ◌%◌, ◌^◌, ◌≤◌, ◌<◌}
+use Prim.Native.Nat.{ℕ, zero, suc, ◌+◌, ◌-◌, ◌*◌, ◌/◌, ◌%◌, ◌^◌, ◌≤◌, ◌<◌}
 use mathlib.Core.List.{List, [], ◌∷◌, ◌++◌}
 use mathlib.Core.Path.{◌≡◌, refl, sym, ap, ap₂, ◌∙◌}
 use native.Mathlib.Omega.{arith}
-use lib.ListN.{length, get_or, set, take, drop, length-take, length-drop}
+use native.Mathlib.Nat.{pow-suc, div-one, div-div-eq-div-mul}
+use borrow.Rule.Slice.PartMut.{put_mid}
+use lib.ListN.{length, get_or, set, take, drop, length-take, length-drop, take-append-drop}
 use lib.Seq.{take-suc, take_all, take-take, take-add}
+use Rattle.std.specs.Int.{w64, to_le_bytes, bytes_low_first, byte_at}
+use Rattle.std.proofs.lemmas.Slice.{take-put_mid, drop-put_mid}
 use Rattle.model.specs.Bytes.{field, field_bytes, fields_bytes, over, part}
-use Rattle.laws.proofs.OverLaws.{over_none, over-length, over-byte, over-then, over-again, field-bytes-length, field-bytes-split, field-again, field-alone, fields-then}
+use Rattle.laws.proofs.OverLaws.{over_none, over-length, over-byte, over-then, over-again, field-bytes-length, field-again, field-alone, fields-then}
 
-module _ (s : List ℕ) (at : ℕ) where
-  -- two stores, side by side
-  pub two_bytes : (x : ℕ) {a b : ℕ} → a ≡ x % 256 → b ≡ x / 256 % 256 → at + 2 ≤ length s → set (set s at a) (at + 1) b ≡ over s at (field_bytes 2 x)
-  unfolding field_bytes
-  two_bytes x {a} {b} low high h =
-      let first : set s at a ≡ over s at (a ∷ []) = over-byte s at a (omega arith) in
-      ap (λ (t : List ℕ). set t (at + 1) b) first
-      ∙ over-byte (over s at (a ∷ [])) (at + 1) b (omega (arith, over-length s at (a ∷ []) (omega arith)))
-      ∙ over-then s at (a ∷ []) (b ∷ []) (at + 1) refl (omega arith)
-      ∙ ap₂ (λ (u v : ℕ). over s at (u ∷ v ∷ [])) low high
+-- the lowest bytes of a number are its field
+low-bytes : (width i count x : ℕ) → width ≤ count → take width (bytes_low_first i count x) ≡ field_bytes width (x / 256 ^ i)
+unfolding field_bytes
+low-bytes zero i count x h = refl
+low-bytes (suc width) i zero x h = absurd (omega arith)
+low-bytes (suc width) i (suc count) x h =
+    let next : x / 256 ^ suc i ≡ x / 256 ^ i / 256 = ap (λ (k : ℕ). x / k) (pow-suc 256 i) ∙ sym (div-div-eq-div-mul x (256 ^ i) 256) in
+    ap₂ (λ (b : ℕ) (l : List ℕ). b ∷ l) (byte i) (low-bytes width (suc i) count x (omega arith) ∙ ap (field_bytes width) next)
+  where
+    byte : (i : ℕ) → byte_at i x ≡ x / 256 ^ i % 256
+    byte zero = ap (λ (n : ℕ). n % 256) (sym (div-one x))
+    byte (suc i) = refl
 
-  -- two fields of one width
-  pub side_by_side : (width x y : ℕ) {t u : List ℕ} → t ≡ over s at (field_bytes width x) → u ≡ over t (at + width) (field_bytes width y) → at + (width + width) ≤ length s
-      → u ≡ over s at (fields_bytes ((width, x) ∷ (width, y) ∷ []))
-  side_by_side width x y first second room =
-      fields-then s at ((width, x) ∷ []) ((width, y) ∷ []) (at + width) (first ∙ ap (over s at) (field-alone width x)) (second ∙ ap (over _ (at + width)) (field-alone width y))
-      (omega arith) (omega arith)
+-- bytes stored at a part of a string are laid over it
+laid-part : (s bytes : List ℕ) (at count : ℕ) → at ≤ length s → length bytes ≡ count → put_mid at count s bytes ≡ over s at bytes
+unfolding over
+laid-part s bytes at count h e =
+    let end = at + length bytes in
+    sym (take-append-drop end (put_mid at count s bytes))
+    ∙ ap₂ (λ (x y : List ℕ). x ++ y) (take-put_mid at count s bytes end refl h) (drop-put_mid at count s bytes end (omega (arith, e)) h e)
 
--- a field's two halves: one law for every width
-pub two-halves : (width : ℕ) (s : List ℕ) (at x : ℕ) {t u : List ℕ} → t ≡ over s at (field_bytes width x) → u ≡ over t (at + width) (field_bytes width (x / 256 ^ width))
-    → at + (width + width) ≤ length s → u ≡ over s at (field_bytes (width + width) x)
-two-halves width s at x first second room =
-    let low = field_bytes width x in
-    let high = field_bytes width (x / 256 ^ width) in
-    second ∙ ap (λ (l : List ℕ). over l (at + width) high) first
-    ∙ over-then s at low high (at + width) (omega (arith, field-bytes-length width x)) (omega (arith, field-bytes-length width (x / 256 ^ width)))
-    ∙ ap (over s at) (sym (field-bytes-split width width x))
+pub field-put : (width : ℕ) (s : List ℕ) (at x count : ℕ) {bytes part : List ℕ} → width ≤ 8 → at + width ≤ length s → count ≡ at + width - at
+    → bytes ≡ to_le_bytes w64 x → part ≡ take width bytes → put_mid at count s part ≡ over s at (field_bytes width x)
+field-put width s at x count {bytes} {part} few room c b p =
+    let field : part ≡ field_bytes width x =
+    p ∙ ap (take width) b ∙ low-bytes width 0 8 x few ∙ ap (field_bytes width) (div-one x) in
+    laid-part s part at count (omega arith) (ap length field ∙ field-bytes-length width x ∙ omega arith) ∙ ap (over s at) field
+
+-- two fields of one width
+pub side_by_side : (width : ℕ) (s : List ℕ) (at x y : ℕ) {t u : List ℕ} → t ≡ over s at (field_bytes width x) → u ≡ over t (at + width) (field_bytes width y)
+    → at + (width + width) ≤ length s → u ≡ over s at (fields_bytes ((width, x) ∷ (width, y) ∷ []))
+side_by_side width s at x y first second room =
+    fields-then s at ((width, x) ∷ []) ((width, y) ∷ []) (at + width) (first ∙ ap (over s at) (field-alone width x)) (second ∙ ap (over _ (at + width)) (field-alone width y))
+    (omega arith) (omega arith)
 
 -- a copy of which k bytes are done
 pub record Laid (s : List ℕ) (at : ℕ) (bytes now' : List ℕ) (k : ℕ) : Type 0 where
@@ -75,9 +86,6 @@ module _ {s : List ℕ} {at : ℕ} {bytes : List ℕ} (room : at + length bytes 
           ∙ ap (over s at) (sym (take-add k 8 bytes));
     }
 
-    pub laid-all : length bytes ≤ k → now' ≡ over s at bytes
-    laid-all h = l.laid ∙ ap (over s at) (take_all k bytes h)
-
 -- a copy by words that stands at k, with a byte or more left (of an empty one nothing is)
 pub record Words (s : List ℕ) (at : ℕ) (bytes now' : List ℕ) (k : ℕ) : Type 0 where
   pub so_far : Laid s at bytes now' k
@@ -93,9 +101,6 @@ module _ {s : List ℕ} {at : ℕ} {bytes : List ℕ} (room : at + length bytes 
   words-none = record { so_far = laid_none room; whole = refl; before_last = omega arith }
 
   module _ {now' : List ℕ} {k : ℕ} (w : Words s at bytes now' k) where
-    pub words-length : length now' ≡ length s
-    words-length = laid-length room w.so_far
-
     pub words-on : {next : List ℕ} → next ≡ over now' (at + k) (part bytes k 8) → k + 8 < length bytes → Words s at bytes next (k + 8)
     words-on e h = record { so_far = laid_word room w.so_far e (omega arith); whole = omega (arith, w.whole); before_last = omega arith }
 

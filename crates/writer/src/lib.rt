@@ -1,5 +1,4 @@
-// Lays bytes over a lent buffer from a position on: little-endian fields, and copies of lent bytes. A wider field is made of two halves, so that one
-// law over the width serves them all.
+// Lays bytes over a lent buffer from a position on: little-endian fields of any width up to eight bytes, and copies of lent bytes.
 #![tactic(auto)]
 
 ghost use Rattle.std.specs.Prelude.{[], ◌∷◌, ◌≡◌, ◌+◌, ◌-◌, ◌*◌, ◌/◌, ◌%◌, ◌≤◌, length, take};
@@ -7,51 +6,21 @@ ghost use Rattle.model.specs.Bytes.{field_bytes, fields_bytes, over, part};
 
 use fields::u64_at;
 
-fn low(x: usize) -> u8
-    ensures { result ≡ x % 256 }
+// A field of W bytes.
+pub fn put<const W: usize>(out: &mut [u8], at: usize, x: usize)
+    requires { (W ≤ 8) × (at + W ≤ length out.old) }
+    ensures { out.new ≡ over out.old at (field_bytes W x) }
 {
-    (x % 256) as u8
+    out[at..at + W].copy_from_slice(&(x as u64).to_le_bytes()[..W]);
 }
 
-fn put_u16(out: &mut [u8], at: usize, x: usize)
-    requires { at + 2 ≤ length out.old }
-    ensures { out.new ≡ over out.old at (field_bytes 2 x) }
+// Two fields of W bytes, side by side.
+pub fn put_two<const W: usize>(out: &mut [u8], at: usize, x: usize, y: usize)
+    requires { (W ≤ 8) × (at + (W + W) ≤ length out.old) }
+    ensures { out.new ≡ over out.old at (fields_bytes ((W, x) ∷ (W, y) ∷ [])) }
 {
-    out[at] = low(x);
-    out[at + 1] = low(x / 256);
-}
-
-pub fn put_u32(out: &mut [u8], at: usize, x: usize)
-    requires { at + 4 ≤ length out.old }
-    ensures { out.new ≡ over out.old at (field_bytes 4 x) }
-{
-    put_u16(out, at, x);
-    put_u16(out, at + 2, x / 65536);
-}
-
-// Two fields, side by side.
-pub fn put_u16s(out: &mut [u8], at: usize, x: usize, y: usize)
-    requires { at + 4 ≤ length out.old }
-    ensures { out.new ≡ over out.old at (fields_bytes ((2, x) ∷ (2, y) ∷ [])) }
-{
-    put_u16(out, at, x);
-    put_u16(out, at + 2, y);
-}
-
-pub fn put_u32s(out: &mut [u8], at: usize, x: usize, y: usize)
-    requires { at + 8 ≤ length out.old }
-    ensures { out.new ≡ over out.old at (fields_bytes ((4, x) ∷ (4, y) ∷ [])) }
-{
-    put_u32(out, at, x);
-    put_u32(out, at + 4, y);
-}
-
-fn put_u64(out: &mut [u8], at: usize, x: usize)
-    requires { at + 8 ≤ length out.old }
-    ensures { out.new ≡ over out.old at (field_bytes 8 x) }
-{
-    put_u32(out, at, x);
-    put_u32(out, at + 4, x / 4294967296);
+    put::<W>(out, at, x);
+    put::<W>(out, at + W, y);
 }
 
 // A copy of eight of the lent bytes.
@@ -59,30 +28,26 @@ fn word(out: &mut [u8], at: usize, s: &[u8], k: usize)
     requires { (at + k + 8 ≤ length out.old) × (k + 8 ≤ length s.now) }
     ensures { out.new ≡ over out.old (at + k) (part s.now k 8) }
 {
-    put_u64(out, at + k, u64_at(s, k) as usize);
+    put::<8>(out, at + k, u64_at(s, k) as usize);
 }
 
 // Copies of eight bytes each, up to the last one to eight.
 fn words(out: &mut [u8], at: usize, s: &[u8])
-    requires { at + length s.now ≤ length out.old }
+    requires { (8 ≤ length s.now) × (at + length s.now ≤ length out.old) }
     ensures { out.new ≡ over out.old at (take (8 * ((length s.now - 1) / 8)) s.now) }
 {
-    let mut k = 0;
-    while k + 8 < s.len() {
+    for k in (0..s.len() - 8).step_by(8) {
         word(out, at, s, k);
-        k += 8;
     }
 }
 
-// A copy byte by byte.
+// A copy byte by byte: for so few, what a `copy_from_slice` sets up costs more than it saves.
 fn few(out: &mut [u8], at: usize, s: &[u8])
     requires { at + length s.now ≤ length out.old }
     ensures { out.new ≡ over out.old at s.now }
 {
-    let mut k = 0;
-    while k < s.len() {
+    for k in 0..s.len() {
         out[at + k] = s[k];
-        k += 1;
     }
 }
 

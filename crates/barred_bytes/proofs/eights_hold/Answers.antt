@@ -6,10 +6,9 @@ use Rattle.barred_bytes.proofs.BarredLaws.{ends-hit, ends-miss}
 use Rattle.barred_bytes.proofs.eights_hold.Goals as goal
 
 pub returns-then-eight_holds : goal.returns-then-eight_holds
-returns-then-eight_holds c = let s = c.args.s.now in
-    ends-hit true s 8 (omega arith) (omega arith) (sym c.eight_holds.ensures ∙ c.if-eight_holds.true)
+returns-then-eight_holds c = let held = c.if-eight_holds.true in
+    held ∙ ends-hit true c.args.s.now 8 (omega arith) (omega arith) (sym c.eight_holds.ensures ∙ held)
 
-pub returns : goal.returns
-returns c = let s = c.args.s.now in
-    let clean = sym c.eight_holds.ensures ∙ c.if-eight_holds.false in
-    c.eight_holds-2.ensures ∙ ends-miss true s 8 (omega arith) (omega arith) clean
+pub returns-else-eight_holds : goal.returns-else-eight_holds
+returns-else-eight_holds c = let clean = sym c.eight_holds.ensures ∙ c.if-eight_holds.false in
+    c.eight_holds-else-eight_holds.ensures ∙ ends-miss true c.args.s.now 8 (omega arith) (omega arith) clean

@@ -1,16 +1,29 @@
 -- `builder::bodies_length` meets its contract. Assumes nothing.
 use borrow.Author.Rules.{rules}
-use Prim.Native.Nat.{◌-◌}
-use native.Mathlib.Nat.{le_of_lt}
-use Rattle.builder.proofs.CountLaws.{summed-none, summed-on, summed-all}
+use mathlib.Core.Path.{◌∙◌}
+use native.Mathlib.Omega.{arith}
+use Rattle.std.specs.List.{range_with_len}
+use Rattle.std.proofs.lemmas.Iterator.{YieldsList-from_map, YieldsList-from_range}
+use Rattle.std.proofs.lemmas.Iterator.Consumers.{sum_by_from_yields_List, fits_by_from_yields_list}
+use mathlib.Core.List.{[]}
+use Rattle.model.specs.Build.{body_length}
+use Rattle.parts.specs.Parts.{nodes_tree}
+use Rattle.builder.proofs.CountLaws.{range-sum, bodies-small}
 use Rattle.builder.proofs.bodies_length.Goals as goal
 
-pub loop-n-init : goal.loop-n-init
-loop-n-init c = search (rules, summed-none)
-
-pub loop-n-preserved : goal.loop-n-preserved
-loop-n-preserved c = summed-on c.loop-n.invariant c.loop-n-test.true (c.body_length-sum.ensures.0 c.args.c)
-    (le_of_lt c.body_length-sum.ensures.1)
+pub sum-requires-clause-fits : goal.sum-requires-clause-fits
+sum-requires-clause-fits c = let s = c.args.nodes.now in
+    let n = c.args.c.nodes in
+    let f = body_length (nodes_tree c.args.c s []) in
+    fits_by_from_yields_list f (range_with_len 0 n) c.map.result _
+    (YieldsList-from_map _ f (YieldsList-from_range 0 _ _ c.map.ensures.source (omega arith)) c.map.ensures.closure (λ x r q k. search rules))
+    (omega (arith, range-sum f n, bodies-small c.args.c s (λ i. omega (arith, c.type_inv.nodes i)) n))
 
 pub returns : goal.returns
-returns c = summed-all c.loop-n.invariant c.loop-n-test.false
+returns c = let s = c.args.nodes.now in
+    let n = c.args.c.nodes in
+    let f = body_length (nodes_tree c.args.c s []) in
+    let sum = sum_by_from_yields_List f (range_with_len 0 n) c.map.result c.sum.result c.sum.ensures.ran
+    (YieldsList-from_map _ f (YieldsList-from_range 0 _ _ c.map.ensures.source (omega arith)) c.map.ensures.closure (λ x r q k. search rules))
+    ∙ range-sum f n in
+    (sum, omega (arith, sum, bodies-small c.args.c s (λ i. omega (arith, c.type_inv.nodes i)) n))

@@ -1,5 +1,7 @@
 -- `builder::build` meets its contract: the first test that refuses decides. Assumes nothing.
 use Rattle.builder.proofs.BuildLaws.{by-counts, counted, by_length, by-fit, by_whole, node_records, mount_records, entry_records, by-record, too_short, fitting, written}
+use borrow.Author.Rules.{rules}
+use Rattle.std.proofs.lemmas.Result.{err_from_is_err_and}
 use mathlib.Core.Path.{ap}
 use mathlib.Core.Bool.{not}
 use Rattle.builder.proofs.build.Goals as goal
@@ -10,9 +12,7 @@ returns-then-too_many c = let a = c.args in
     by-counts a.nodes.now a.mounts.now a.entries.now a.text.now a.out.now is c.too_many.ensures c.if-too_many.true
 
 pub measure-l-requires : goal.measure-l-requires
-measure-l-requires c = let a = c.args in
-    let is = c.count-c.ensures in
-    counted a.nodes.now a.mounts.now a.entries.now a.text.now a.out.now is c.too_many.ensures c.if-too_many.false
+measure-l-requires c = search (rules, counted)
 
 pub returns-then-l-gt-MOST_IMAGE : goal.returns-then-l-gt-MOST_IMAGE
 returns-then-l-gt-MOST_IMAGE c = let a = c.args in
@@ -32,26 +32,18 @@ returns-then-not-records_whole c = let a = c.args in
     c.measure-l.ensures c.if-l-gt-MOST_IMAGE.false c.counts_fit.ensures
     (ap not c.if-not-counts_fit.false) c.records_whole.ensures (ap not c.if-not-records_whole.true)
 
-pub check_records-verdict-requires : goal.check_records-verdict-requires
-check_records-verdict-requires c = let a = c.args in
-    let is = c.count-c.ensures in
-    let told = c.records_whole.ensures in (
-      node_records a.nodes.now a.mounts.now a.entries.now a.text.now a.out.now is c.measure-l.ensures
-          c.if-l-gt-MOST_IMAGE.false c.counts_fit.ensures (ap not c.if-not-counts_fit.false) told (ap not c.if-not-records_whole.false),
-      mount_records a.nodes.now a.mounts.now a.entries.now a.text.now a.out.now is c.measure-l.ensures
-          c.if-l-gt-MOST_IMAGE.false c.counts_fit.ensures (ap not c.if-not-counts_fit.false) told (ap not c.if-not-records_whole.false),
-      entry_records a.nodes.now a.mounts.now a.entries.now a.text.now a.out.now is c.measure-l.ensures
-          c.if-l-gt-MOST_IMAGE.false c.counts_fit.ensures (ap not c.if-not-counts_fit.false) told (ap not c.if-not-records_whole.false),
-    )
+pub check_records-requires : goal.check_records-requires
+check_records-requires c = search (rules, node_records, mount_records, entry_records)
 
-pub returns-in-Broken : goal.returns-in-Broken
-returns-in-Broken c = let a = c.args in
+pub returns-in_err-check_records : goal.returns-in_err-check_records
+returns-in_err-check_records c = let a = c.args in
     let is = c.count-c.ensures in
+    let handed-on = err_from_is_err_and c.from_residual.result c.from_residual.ensures.1 in
     by-record a.nodes.now a.mounts.now a.entries.now a.text.now a.out.now is
     c.measure-l.ensures c.if-l-gt-MOST_IMAGE.false
     c.counts_fit.ensures
     (ap not c.if-not-counts_fit.false) c.records_whole.ensures (ap not c.if-not-records_whole.false)
-    c.check_records-verdict.ensures c.in-Broken.is
+    c.check_records.ensures c.in_err-check_records.was handed-on.1 handed-on.2
 
 pub returns-then-out-l : goal.returns-then-out-l
 returns-then-out-l c = let a = c.args in
@@ -60,7 +52,7 @@ returns-then-out-l c = let a = c.args in
     c.measure-l.ensures
     c.if-l-gt-MOST_IMAGE.false c.counts_fit.ensures
     (ap not c.if-not-counts_fit.false) c.records_whole.ensures
-    (ap not c.if-not-records_whole.false) c.check_records-verdict.ensures c.in_default.is c.if-out-l.true
+    (ap not c.if-not-records_whole.false) c.check_records.ensures c.in_ok-check_records.was c.if-out-l.true
 
 pub put_image-requires : goal.put_image-requires
 put_image-requires c = let a = c.args in
@@ -70,8 +62,9 @@ put_image-requires c = let a = c.args in
     c.if-l-gt-MOST_IMAGE.false
     c.counts_fit.ensures
     (ap not c.if-not-counts_fit.false) c.records_whole.ensures
-    (ap not c.if-not-records_whole.false) c.check_records-verdict.ensures c.in_default.is
-    c.if-out-l.false
+    (ap not c.if-not-records_whole.false)
+    c.check_records.ensures
+    c.in_ok-check_records.was c.if-out-l.false
 
 pub returns : goal.returns
 returns c = let a = c.args in
@@ -82,5 +75,5 @@ returns c = let a = c.args in
     c.counts_fit.ensures
     (ap not c.if-not-counts_fit.false)
     c.records_whole.ensures
-    (ap not c.if-not-records_whole.false) c.check_records-verdict.ensures
-    c.in_default.is c.if-out-l.false c.put_image.ensures
+    (ap not c.if-not-records_whole.false)
+    c.check_records.ensures c.in_ok-check_records.was c.if-out-l.false c.put_image.ensures

@@ -1,11 +1,7 @@
 -- `byte_blocks::differs` meets its contract. The loop's invariant: the block differs if a byte was seen to, or what is left of it
 -- from `k` on does. Assumes nothing.
-use Prim.Native.Nat.{◌+◌, ◌-◌}
 use Rattle.byte_blocks.proofs.BlockLaws.{SeenTo}
 use Rattle.byte_blocks.proofs.differs.Given as goal
 
 abbrev pub invariant-loop-k : goal.invariant-loop-k
 invariant-loop-k l = SeenTo 32 l.a l.b l.i l.found l.k
-
-abbrev pub decreases-loop-k : goal.decreases-loop-k
-decreases-loop-k l = l.i + 32 - l.k

@@ -4,17 +4,17 @@ use borrow.Author.Rules.{rules}
 use Rattle.call.proofs.CallLaws.{by-how, by-path, by-unchecked, by-handle, by-fields}
 use Rattle.call.proofs.check_call.Goals as goal
 
-pub returns-in-Refused : goal.returns-in-Refused
-returns-in-Refused c = search (rules, by-how)
+pub returns-in_err-fields : goal.returns-in_err-fields
+returns-in_err-fields c = search (rules, by-how)
 
-pub returns-in-Refused-check_path : goal.returns-in-Refused-check_path
-returns-in-Refused-check_path c = search (rules, by-path)
+pub returns-in_err-check_path : goal.returns-in_err-check_path
+returns-in_err-check_path c = search (rules, by-path)
 
 pub returns-then-handle_unchecked : goal.returns-then-handle_unchecked
 returns-then-handle_unchecked c = search (rules, by-unchecked)
 
-pub returns-in-Refused-check_handle : goal.returns-in-Refused-check_handle
-returns-in-Refused-check_handle c = search (rules, by-handle)
+pub returns-in_err-check_handle : goal.returns-in_err-check_handle
+returns-in_err-check_handle c = search (rules, by-handle)
 
 pub returns : goal.returns
 returns c = search (rules, by-fields)

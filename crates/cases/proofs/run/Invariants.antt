@@ -1,10 +1,6 @@
--- `cases::run` meets its contract. The loop's invariant: at most as many cases passed as were run.
--- Assumes nothing.
-use Prim.Native.Nat.{◌≤◌, ◌-◌}
+-- `cases::run` meets its contract. The loop's invariant: at most as many cases passed as were run. Assumes nothing.
+use Prim.Native.Nat.{◌≤◌}
 use Rattle.cases.proofs.run.Given as goal
 
 abbrev pub invariant-loop-i : goal.invariant-loop-i
-invariant-loop-i l = (l.i ≤ l.count) × (l.passed ≤ l.i)
-
-abbrev pub decreases-loop-i : goal.decreases-loop-i
-decreases-loop-i l = l.count - l.i
+invariant-loop-i l = l.passed ≤ l.i

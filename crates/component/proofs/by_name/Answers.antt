@@ -12,8 +12,8 @@ entry_node-requires c = search (rules, entry-below)
 pub step_to-requires : goal.step_to-requires
 step_to-requires c = search (rules, named-below)
 
-pub returns-in-At : goal.returns-in-At
-returns-in-At c = search (rules, name-leads)
+pub returns-in-Some : goal.returns-in-Some
+returns-in-Some c = search (rules, name-leads)
 
-pub returns-in-Nowhere : goal.returns-in-Nowhere
-returns-in-Nowhere c = search (rules, name-nowhere)
+pub returns-in-None : goal.returns-in-None
+returns-in-None c = search (rules, name-nowhere)

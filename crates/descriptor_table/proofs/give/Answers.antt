@@ -1,16 +1,18 @@
 -- `descriptor_table::give` meets its contract. Assumes nothing.
+use Prim.Native.Nat.{◌<◌}
+use mathlib.Core.Path.{refl, sym}
 use borrow.Author.Rules.{rules}
-use Rattle.descriptor_table.proofs.ReplyLaws.{answer-refused, answer-full, answer-opened, fits_told}
+use Rattle.slots.proofs.SlotLaws.{free-below}
+use Rattle.descriptor_table.proofs.ReplyLaws.{answer-opened}
 use Rattle.descriptor_table.proofs.give.Goals as goal
 
-pub returns-then-number-ge-DESCRIPTORS : goal.returns-then-number-ge-DESCRIPTORS
-returns-then-number-ge-DESCRIPTORS c = search (rules, answer-full)
+pub offset_bounds-slots-number : goal.offset_bounds-slots-number
+offset_bounds-slots-number c = let below : c.in-Some.number < 64 = free-below _ _ (sym c.in-Some.ensures) in
+    search (rules, below)
 
-pub number_of-requires : goal.number_of-requires
-number_of-requires c = search (rules, fits_told)
+pub bounds-slots-number : goal.bounds-slots-number
+bounds-slots-number c = let below : c.in-Some.number < 64 = free-below _ _ (sym c.in-Some.ensures) in
+    search (rules, below)
 
-pub returns-else-number-ge-DESCRIPTORS : goal.returns-else-number-ge-DESCRIPTORS
-returns-else-number-ge-DESCRIPTORS c = search (rules, answer-opened)
-
-pub returns-in-Refused : goal.returns-in-Refused
-returns-in-Refused c = search (rules, answer-refused)
+pub returns-in-Some : goal.returns-in-Some
+returns-in-Some c = answer-opened _ _ c.in-Found.is _ _ c.in-Some.ensures c.number_of.ensures refl

@@ -1,14 +1,16 @@
 -- `descriptors::start_accepted` meets its contract. Assumes nothing.
-use borrow.Author.Rules.{rules}
-use Rattle.image.proofs.CountLaws.{header, counts}
-use Rattle.descriptors.proofs.OpenLaws.{some_mount, start-open}
+use Prim.Native.Nat.{ℕ}
+use mathlib.Core.List.{List}
+use mathlib.Core.Path.{◌∙◌, ap}
+use denote.Bor.{Bor}
+use Rattle.model.specs.Tree.{tree_of}
+use Rattle.descriptors.proofs.OpenLaws.{start-open}
 use Rattle.descriptors.proofs.start_accepted.Goals as goal
 
-pub read_counts-c-requires : goal.read_counts-c-requires
-read_counts-c-requires c = search (rules, header)
-
 pub mount_root-requires : goal.mount_root-requires
-mount_root-requires c = search (rules, counts, some_mount)
+mount_root-requires c = c.of.result.reading.counted.sized.some_mount
 
 pub returns : goal.returns
-returns c = start-open _ c.args.slots.now c.close_all.ensures c.requires.0 _ c.mount_root.ensures c.number_of.ensures
+returns c =
+    let root = c.mount_root.ensures.0 ∙ ap (λ (b : Bor (List ℕ)). (tree_of b.now).mount_root 0) c.of.ensures.0 in
+    start-open _ c.args.slots.now c.close_all.ensures c.requires.0 _ (root, c.mount_root.ensures.1) c.number_of.ensures

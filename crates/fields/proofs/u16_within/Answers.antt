@@ -7,4 +7,4 @@ pub returns-then-s-at : goal.returns-then-s-at
 returns-then-s-at c = search (rules, none-there)
 
 pub returns-then-s-at-2 : goal.returns-then-s-at-2
-returns-then-s-at-2 c = let a = c.args in one-there a.s.now a.at c.if-s-at-2.true c.wide.ensures
+returns-then-s-at-2 c = search (rules, one-there)

@@ -8,4 +8,4 @@ pub returns : goal.returns
 unfolding ascii
 returns c = let a = c.args in
     header-laid a.out.now (sizes_by a.c a.l.text) c.requires.0 c.requires.1
-    c.lay.ensures c.put_u16s.ensures c.put_u16s-2.ensures c.put_u32s.ensures
+    c.lay.ensures c.put_two.ensures c.put_two-2.ensures c.put_two-3.ensures

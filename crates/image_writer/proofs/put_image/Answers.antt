@@ -17,10 +17,6 @@ pub put_entries-requires : goal.put_entries-requires
 put_entries-requires c = let fit = c.requires in
     (fit.entry_records, omega (arith, all-fits fit))
 
-pub overflow_add-text_at : goal.overflow_add-text_at
-overflow_add-text_at c = let fit = c.requires in
-    record { fits = omega (arith, bodies-begin fit) }
-
 pub put_names-requires : goal.put_names-requires
 put_names-requires c = let fit = c.requires in
     (fit.entry_records, fit.names_inside, omega (arith, all-fits fit))
@@ -32,9 +28,6 @@ overflow_add-text_at-2 c = let fit = c.requires in
 pub put_bodies-requires : goal.put_bodies-requires
 put_bodies-requires c = let fit = c.requires in
     (fit.node_records, fit.bodies_inside, omega (arith, all-fits fit, names-sum fit))
-
-pub shape_of-out : goal.shape_of-out
-shape_of-out c = omega (arith, c.out-6-1.given, c.out-5-1.given, c.out-4-1.given, c.out-3-1.given, c.out-2-1.given, c.out-1.given)
 
 pub returns : goal.returns
 returns c = image-laid c.args.out.now c.requires c.put_header.ensures c.put_nodes.ensures c.put_mounts.ensures

@@ -8,5 +8,5 @@ use Rattle.lookup.proofs.lookup.Goals as goal
 pub lookup_accepted-requires : goal.lookup_accepted-requires
 lookup_accepted-requires c = search (rules, accepted-told)
 
-pub returns-in-Broken : goal.returns-in-Broken
-returns-in-Broken c = (c.miss.ensures ∙ lookup-broken _ _ _ c.check-verdict.ensures.0 c.in-Broken.is, refl, refl)
+pub returns-in-Err : goal.returns-in-Err
+returns-in-Err c = (c.miss.ensures ∙ lookup-broken _ _ _ c.check.ensures.0 c.in-Err.is, refl, refl)

@@ -5,12 +5,10 @@ use mathlib.Core.Bool.{not, ◌||◌}
 use mathlib.Core.Path.{◌≡◌}
 use lib.Dec.{eqb}
 use lib.ListN.{length, get_or}
-use Rattle.model.specs.Bytes.{find, is_some}
+use Rattle.std.specs.Option.{is_some}
+use Rattle.model.specs.Bytes.{find}
 use Rattle.model.specs.OpenHow.{tail_set}
 use Rattle.open_how.proofs.tail_set.Given as goal
 
 abbrev pub invariant-loop-i : goal.invariant-loop-i
 invariant-loop-i l = tail_set l.how ≡ (l.set || is_some (find (λ k. not (eqb (get_or l.how k 0) 0)) l.i (length l.how - l.i)))
-
-abbrev pub decreases-loop-i : goal.decreases-loop-i
-decreases-loop-i l = length l.how - l.i

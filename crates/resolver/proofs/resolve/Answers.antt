@@ -7,5 +7,5 @@ use Rattle.resolver.proofs.resolve.Goals as goal
 pub resolve_accepted-requires : goal.resolve_accepted-requires
 resolve_accepted-requires c = search (rules, accepted-told)
 
-pub returns-in-Broken : goal.returns-in-Broken
-returns-in-Broken c = search (rules, broken-call)
+pub returns-in-Err : goal.returns-in-Err
+returns-in-Err c = search (rules, broken-call)

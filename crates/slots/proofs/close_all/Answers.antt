@@ -1,16 +1,12 @@
--- `slots::close_all` meets its contract. The loop's invariant: those before `d` are closed. Assumes nothing.
+-- `slots::close_all` meets its contract. Assumes nothing.
 use Prim.Native.Nat.{ℕ}
+use mathlib.Core.List.{◌++◌}
 use mathlib.Core.Path.{◌≡◌, ap, ◌∙◌}
 use native.Mathlib.Omega.{arith}
-use lib.ListN.{length-set}
-use Rattle.slots.proofs.SlotLaws.{shut_to, shut_one}
+use lib.ListN.{length, take, drop, replicate, length-take}
 use Rattle.slots.proofs.close_all.Goals as goal
 
-pub loop-d-preserved : goal.loop-d-preserved
-loop-d-preserved c = let l = c.loop-d in
-    (omega arith, l.invariant.1, simp length-set l.invariant.2, shut_one _ _ l.invariant.3 (omega (arith, l.invariant.1)))
-
 pub returns : goal.returns
-returns c = let l = c.loop-d in
-    let all : l.d ≡ 64 = omega arith in
-    l.invariant.3 ∙ ap (λ (d : ℕ). shut_to d c.args.slots.now) all
+returns c = let s = c.args.slots.now in
+    let all : length (take 64 s) ≡ 64 = length-take 64 s ∙ omega arith in
+    ap (λ l. l ++ drop 64 s) (c.fill.ensures.after (λ _ e. e) ∙ ap (λ (n : ℕ). replicate n 0) all)

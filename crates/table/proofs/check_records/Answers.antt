@@ -3,26 +3,26 @@ use borrow.Author.Rules.{rules}
 use Rattle.table.proofs.RuleLaws.{directories, by-node, by-entry, by-mount, by-target, by-none}
 use Rattle.table.proofs.check_records.Goals as goal
 
-pub returns-in-At : goal.returns-in-At
-returns-in-At c = search (rules, by-node)
+pub returns-in-Some : goal.returns-in-Some
+returns-in-Some c = search (rules, by-node)
 
-pub first_bad_entry-entry-requires : goal.first_bad_entry-entry-requires
-first_bad_entry-entry-requires c = search (rules, directories)
+pub first_bad_entry-requires : goal.first_bad_entry-requires
+first_bad_entry-requires c = search (rules, directories)
 
-pub returns-in-At-entry : goal.returns-in-At-entry
-returns-in-At-entry c = search (rules, by-entry)
+pub returns-in-Some-first_bad_entry : goal.returns-in-Some-first_bad_entry
+returns-in-Some-first_bad_entry c = search (rules, by-entry)
 
-pub first_bad_mount-mount-requires : goal.first_bad_mount-mount-requires
-first_bad_mount-mount-requires c = search (rules, directories)
+pub first_bad_mount-requires : goal.first_bad_mount-requires
+first_bad_mount-requires c = search (rules, directories)
 
-pub returns-in-At-mount : goal.returns-in-At-mount
-returns-in-At-mount c = search (rules, by-mount)
+pub returns-in-Some-first_bad_mount : goal.returns-in-Some-first_bad_mount
+returns-in-Some-first_bad_mount c = search (rules, by-mount)
 
-pub first_bad_target-target-requires : goal.first_bad_target-target-requires
-first_bad_target-target-requires c = search (rules, directories)
+pub first_bad_target-requires : goal.first_bad_target-requires
+first_bad_target-requires c = search (rules, directories)
 
-pub returns-in-At-target : goal.returns-in-At-target
-returns-in-At-target c = search (rules, by-target)
+pub returns-in-Some-first_bad_target : goal.returns-in-Some-first_bad_target
+returns-in-Some-first_bad_target c = search (rules, by-target)
 
 pub returns : goal.returns
 returns c = search (rules, by-none)

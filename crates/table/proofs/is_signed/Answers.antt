@@ -5,10 +5,10 @@ use lib.Dec.{eqb}
 use Rattle.model.specs.Bytes.{ascii}
 use Rattle.table.proofs.is_signed.Goals as goal
 
-pub returns-then-not-same : goal.returns-then-not-same
+pub returns-else-same : goal.returns-else-same
 unfolding ascii
-returns-then-not-same c = rw (sym c.same.ensures ∙ c.if-not-same.true)
+returns-else-same c = c.if-same.false ∙ rw (sym c.same.ensures ∙ c.if-same.false)
 
-pub returns : goal.returns
+pub returns-then-same : goal.returns-then-same
 unfolding ascii
-returns c = ap (λ (x : ℕ). eqb x 0) c.u16_at.ensures.0 ∙ rw (sym c.same.ensures ∙ c.if-not-same.false)
+returns-then-same c = ap (λ (x : ℕ). eqb x 0) c.u16_at.ensures.0 ∙ rw (sym c.same.ensures ∙ c.if-same.true)

@@ -1,6 +1,6 @@
 -- `table_entries::bad_in_directory` meets its contract. The loop's invariant: the lowest bad entry of the directory is the lowest from
 -- `e` on, and the name before `e` keeps its sentence. Assumes nothing.
-use Prim.Native.Nat.{◌+◌, ◌-◌, ◌≤◌, ◌<◌}
+use Prim.Native.Nat.{◌+◌, ◌-◌, ◌<◌}
 use mathlib.Core.Bool.{true, not}
 use mathlib.Core.Path.{◌≡◌}
 use Rattle.model.specs.Tree.{first_in, count_in}
@@ -12,9 +12,6 @@ use Rattle.table_entries.proofs.bad_in_directory.Given as goal
 
 abbrev pub invariant-loop-e : goal.invariant-loop-e
 invariant-loop-e l =
-    (l.first ≡ first_in l.nodes l.n) × (l.end ≡ l.first + count_in l.nodes l.n) × (l.first ≤ l.e) × (l.e ≤ l.end)
+    (l.first ≡ first_in l.nodes l.n) × (l.end ≡ l.first + count_in l.nodes l.n)
     × (l.first < l.e → name_holds (entries_tree l.c l.nodes l.entries l.text) (l.e - 1) ≡ true)
     × Finds (λ k. not (entry_holds (entries_tree l.c l.nodes l.entries l.text) k)) l.end (bad_in (entries_tree l.c l.nodes l.entries l.text) (first_in l.nodes l.n) (count_in l.nodes l.n)) l.e
-
-abbrev pub decreases-loop-e : goal.decreases-loop-e
-decreases-loop-e l = l.end - l.e

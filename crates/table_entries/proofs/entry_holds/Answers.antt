@@ -8,6 +8,9 @@ use Rattle.parts.specs.Parts.{entries_tree}
 use Rattle.parts.proofs.PartsLaws.{directories_hold, entry-held}
 use Rattle.table_entries.proofs.RangeLaws.{bad-name, bad-node, bad-order, entry-stands, held-inside, named, ascends-from}
 use Rattle.table_entries.proofs.entry_holds.Goals as goal
+use Rattle.table_entries.proofs.entry_holds.Goals.{then-not-name_holds-via-then-not-name_holds}
+use Rattle.table_entries.proofs.entry_holds.Goals.{then-not-name_holds-via-else-not-name_holds+then-c-entry_node}
+use Rattle.table_entries.proofs.entry_holds.Goals.{then-not-name_holds-via-else-not-name_holds+else-c-entry_node+then-not-entry_ascends}
 
 pub name_holds-requires : goal.name_holds-requires
 name_holds-requires c =
@@ -15,21 +18,11 @@ name_holds-requires c =
     let t = entries_tree a.c a.nodes.now a.entries.now a.text.now in
     (c.requires.0.entry_records, held-inside t c.requires.0.directories_hold c.requires.1, c.requires.4)
 
-pub returns-then-not-name_holds : goal.returns-then-not-name_holds
-unfolding name_holds
-returns-then-not-name_holds c =
-    let a = c.args in
-    sym (bad-name (entries_tree a.c a.nodes.now a.entries.now a.text.now) a.e (sym c.name_holds.ensures ∙ c.if-not-name_holds.true))
-
-pub entry_node-node-requires : goal.entry_node-node-requires
-entry_node-node-requires c =
+pub entry_node-requires : goal.entry_node-requires
+entry_node-requires c =
     let a = c.args in
     let t = entries_tree a.c a.nodes.now a.entries.now a.text.now in
     omega (arith, held-inside t c.requires.0.directories_hold c.requires.1, c.requires.0.entry_records.whole)
-
-pub returns-then-c-node : goal.returns-then-c-node
-returns-then-c-node c =
-    let a = c.args in sym (bad-node (entries_tree a.c a.nodes.now a.entries.now a.text.now) a.e (omega arith))
 
 pub entry_ascends-requires : goal.entry_ascends-requires
 unfolding name_holds
@@ -40,12 +33,19 @@ entry_ascends-requires c =
     let inside = held-inside (entries_tree a.c a.nodes.now a.entries.now a.text.now) p.0.directories_hold p.1 in
     (name _ p.0.entry_records inside (sym c.name_holds.ensures ∙ c.if-not-name_holds.false), λ l. name _ p.0.entry_records (omega (arith, inside)) (p.3 l))
 
-pub returns-then-not-entry_ascends : goal.returns-then-not-entry_ascends
-returns-then-not-entry_ascends c =
+pub returns-then-not-name_holds : goal.returns-then-not-name_holds
+unfolding name_holds
+returns-then-not-name_holds c =
     let a = c.args in
     let p = c.requires in
+    let t = entries_tree a.c a.nodes.now a.entries.now a.text.now in
     let order = ascends-from a.c a.nodes.now _ _ p.0.directories_hold a.n _ _ p.1 p.2 in
-    sym (bad-order (entries_tree a.c a.nodes.now a.entries.now a.text.now) a.e (sym order ∙ sym c.entry_ascends.ensures ∙ c.if-not-entry_ascends.true))
+    elim c.then-not-name_holds.branch [
+      | then-not-name_holds-via-then-not-name_holds w ↦ sym (bad-name t a.e (sym c.name_holds.ensures ∙ w.if-not-name_holds.true))
+      | then-not-name_holds-via-else-not-name_holds+then-c-entry_node w ↦ sym (bad-node t a.e (omega arith))
+      | then-not-name_holds-via-else-not-name_holds+else-c-entry_node+then-not-entry_ascends w ↦
+          sym (bad-order t a.e (sym order ∙ sym w.entry_ascends.ensures ∙ w.if-not-entry_ascends.true))
+    ]
 
 pub stands_in_parent-requires : goal.stands_in_parent-requires
 stands_in_parent-requires c =

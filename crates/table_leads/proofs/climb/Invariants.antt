@@ -11,10 +11,7 @@ use Rattle.table_leads.specs.Climbs.{climbed}
 use Rattle.table_leads.proofs.ClimbLaws.{Climbs}
 use Rattle.table_leads.proofs.climb.Given as goal
 
-abbrev pub invariant-loop-k : goal.invariant-loop-k
-invariant-loop-k l = ((c : Counts) → DirectoriesHold (mounts_tree c l.nodes [])
+abbrev pub invariant-loop-left : goal.invariant-loop-left
+invariant-loop-left l = ((c : Counts) → DirectoriesHold (mounts_tree c l.nodes [])
     → is_directory (mounts_tree c l.nodes []) l.n ≡ true → is_directory (mounts_tree c l.nodes []) l.k ≡ true)
     × Climbs (parent_in l.nodes) l.root (climbed (parent_in l.nodes) l.steps l.n l.root) l.left l.k
-
-abbrev pub decreases-loop-k : goal.decreases-loop-k
-decreases-loop-k l = l.left

@@ -4,8 +4,8 @@ use borrow.Author.Rules.{rules}
 use Rattle.table_leads.proofs.ClimbLaws.{stops-here, goes_on, stops-done}
 use Rattle.table_leads.proofs.first_unseen.Goals as goal
 
-pub returns-then-left-eq0 : goal.returns-then-left-eq0
-returns-then-left-eq0 c = search (rules, stops-here)
+pub returns-in_default : goal.returns-in_default
+returns-in_default c = search (rules, stops-here)
 
 pub loop-k-preserved : goal.loop-k-preserved
 loop-k-preserved c = search (rules, goes_on)

@@ -10,6 +10,3 @@ abbrev pub invariant-loop-k : goal.invariant-loop-k
 invariant-loop-k l =
     let t = mounts_tree l.c l.nodes l.mounts in
     Unseen l.links t l.end (unseen_from l.links t l.from (l.end - l.from) (budget l.c)) l.left l.k
-
-abbrev pub decreases-loop-k : goal.decreases-loop-k
-decreases-loop-k l = l.end - l.k

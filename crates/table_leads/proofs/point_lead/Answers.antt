@@ -3,19 +3,17 @@ use borrow.Author.Rules.{rules}
 use Rattle.model.specs.Tree.{is_directory}
 use Rattle.table_leads.proofs.LeadLaws.{point-late, point-other, point-root, point-into}
 use Rattle.table_leads.proofs.point_lead.Goals as goal
-
-pub returns-then-m-parent : goal.returns-then-m-parent
-unfolding is_directory
-returns-then-m-parent c = search (rules, point-late)
-
-pub returns-then-not-is_directory : goal.returns-then-not-is_directory
-unfolding is_directory
-returns-then-not-is_directory c = search (rules, point-other)
+use Rattle.table_leads.proofs.point_lead.Goals.{else-parent-m-via-then-parent-m+then-is_directory+else-point-mount_root}
+use Rattle.table_leads.proofs.point_lead.Goals.{else-parent-m-via-then-parent-m+else-is_directory, else-parent-m-via-else-parent-m}
 
 pub returns-then-point-mount_root : goal.returns-then-point-mount_root
 unfolding is_directory
-returns-then-point-mount_root c = search (rules, point-root)
+returns-then-point-mount_root c = search (rules, point-into)
 
 pub returns : goal.returns
 unfolding is_directory
-returns c = search (rules, point-into)
+returns c = elim c.else-parent-m.branch [
+  | else-parent-m-via-then-parent-m+then-is_directory+else-point-mount_root w ↦ search (rules, point-root)
+  | else-parent-m-via-then-parent-m+else-is_directory w ↦ search (rules, point-other)
+  | else-parent-m-via-else-parent-m w ↦ search (rules, point-late)
+]

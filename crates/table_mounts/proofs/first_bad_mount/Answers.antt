@@ -3,7 +3,6 @@ use mathlib.Core.Bool.{false}
 use mathlib.Core.Path.{sym, ap, ◌∙◌}
 use native.Mathlib.Omega.{arith}
 use Rattle.parts.specs.Parts.{mounts_tree}
-use Rattle.parts.specs.Searches.{search_of}
 use Rattle.table_leads.specs.Leads.{broken_from}
 use Rattle.table_mounts.proofs.MountLaws.{clash-alike, clash-found, rule-some, rule-none}
 use Rattle.table_mounts.proofs.first_bad_mount.Goals as goal
@@ -22,7 +21,7 @@ returns-then-m-c c =
     let t = mounts_tree a.c a.nodes.now a.mounts.now in
     let clash = c.first_clash.ensures ∙ clash-alike a.c a.nodes.now a.mounts.now in
     let lowest = c.first_broken_below-m.ensures ∙ ap (broken_from false t 0) clash in
-    sym (ap search_of (rule-some t c.requires.1.some c.first_broken_below-m.result lowest c.if-m-c.true))
+    sym (rule-some t c.requires.1.some c.first_broken_below-m.result lowest c.if-m-c.true)
 
 pub returns : goal.returns
 returns c =
@@ -30,4 +29,4 @@ returns c =
     let t = mounts_tree a.c a.nodes.now a.mounts.now in
     let clash = c.first_clash.ensures ∙ clash-alike a.c a.nodes.now a.mounts.now in
     let lowest = c.first_broken_below-m.ensures ∙ ap (broken_from false t 0) clash in
-    sym (ap search_of (rule-none t c.requires.1.some c.first_broken_below-m.result lowest (omega arith)))
+    sym (rule-none t c.requires.1.some c.first_broken_below-m.result lowest (omega arith))

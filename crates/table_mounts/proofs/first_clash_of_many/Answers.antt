@@ -4,7 +4,7 @@ use Prim.Native.Nat.{ℕ}
 use mathlib.Core.Path.{refl, ◌∙◌}
 use native.Mathlib.Omega.{arith}
 use Rattle.model.specs.TableCheck.{shares_point}
-use Rattle.parts.proofs.FoundLaws.{first-hit, first-miss, first-none}
+use Rattle.parts.proofs.FoundLaws.{first-hit, first-miss, first-end}
 use Rattle.table_mounts.specs.Clashes.{first_clash}
 use lib.ListN.{length-replicate}
 use Rattle.table_mounts.proofs.ClashLaws.{noted-none}
@@ -25,4 +25,4 @@ loop-m-preserved c = let inv = c.loop-m.invariant in
 
 pub returns : goal.returns
 unfolding first_clash shares_point
-returns c = first-none c.loop-m.invariant.0 (omega arith)
+returns c = first-end c.loop-m.invariant.0 (omega arith)

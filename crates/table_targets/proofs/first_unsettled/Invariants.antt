@@ -1,8 +1,6 @@
 -- `table_targets::first_unsettled` meets its contract. The loop's invariant: the lowest is the lowest from here on. Assumes nothing.
-use Prim.Native.Nat.{◌-◌}
 use mathlib.Core.Bool.{not}
 use mathlib.Core.List.{[]}
-use mathlib.Core.Path.{◌≡◌}
 use Rattle.parts.specs.Parts.{mounts_tree}
 use Rattle.table_leads.specs.Leads.{link_lead, settled}
 use Rattle.parts.proofs.FoundLaws.{FirstFrom}
@@ -12,7 +10,4 @@ use Rattle.table_targets.proofs.first_unsettled.Given as goal
 abbrev pub invariant-loop-n : goal.invariant-loop-n
 invariant-loop-n l =
     let t = mounts_tree l.c l.nodes [] in
-    (l.end ≡ l.c.nodes) × FirstFrom (λ k. not (settled (link_lead t k))) l.c.nodes (first_unsettled t) l.n
-
-abbrev pub decreases-loop-n : goal.decreases-loop-n
-decreases-loop-n l = l.end - l.n
+    FirstFrom (λ k. not (settled (link_lead t k))) l.c.nodes (first_unsettled t) l.n

@@ -13,11 +13,11 @@ pass_down-requires c = let a = c.args in
     let p = c.requires in
     let rooted = c.note_roots.ensures in
     let t = mounts_tree a.c a.nodes.now a.mounts.now in
-    (p.0, rooted.room, (charted-none t _ p.1.few rooted).numbered.fitting)
+    (p.0, (charted-none t _ p.1.few rooted.0 rooted.1).numbered.fitting)
 
 pub first_failing-requires : goal.first_failing-requires
 first_failing-requires c = let a = c.args in
     let p = c.requires in
     let rooted = c.note_roots.ensures in
     let t = mounts_tree a.c a.nodes.now a.mounts.now in
-    (p.0, p.1, charted-all t p.2 _ _ p.1.few rooted c.pass_down.ensures, p.3, p.4)
+    (p.0, p.1, charted-all t p.2 _ p.1.few rooted.0 rooted.1 c.pass_down.ensures, p.3, p.4)

@@ -1,11 +1,13 @@
 -- `text::ends_in_slash` meets its contract. Assumes nothing.
-use mathlib.Core.Path.{sym}
+use mathlib.Core.Path.{sym, ◌∙◌}
 use native.Mathlib.Omega.{arith}
+use borrow.Author.Tests.{le-ltb}
+use lib.ListN.{length}
 use Rattle.text.proofs.Scans.{empty-ends, last-ends}
 use Rattle.text.proofs.ends_in_slash.Goals as goal
 
-pub returns-then-s-eq0 : goal.returns-then-s-eq0
-returns-then-s-eq0 c = sym (empty-ends c.args.s.now c.if-s-eq0.true)
+pub returns-then-s-gt0 : goal.returns-then-s-gt0
+returns-then-s-gt0 c = sym (last-ends c.args.s.now c.if-s-gt0.true)
 
-pub returns : goal.returns
-returns c = sym (last-ends c.args.s.now (omega arith))
+pub returns-else-s-gt0 : goal.returns-else-s-gt0
+returns-else-s-gt0 c = le-ltb 0 (length c.args.s.now) (omega arith) ∙ sym (empty-ends c.args.s.now (omega arith))

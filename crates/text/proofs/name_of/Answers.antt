@@ -6,7 +6,7 @@ use Rattle.text.specs.Texts.{between}
 use Rattle.text.proofs.name_of.Goals as goal
 
 pub slice_bounds-result-end : goal.slice_bounds-result-end
-slice_bounds-result-end c = omega (arith, ap length c.text_of-here.ensures, c.requires.3)
+slice_bounds-result-end c = omega (arith, ap length c.text_of-here.ensures, c.requires.2)
 
 pub returns : goal.returns
 returns c = let args = c.args in

@@ -7,12 +7,12 @@ use lib.Dec.{eqb}
 use Rattle.model.specs.Tree.{tree_of, is_directory}
 use Rattle.tree.proofs.is_directory.Goals as goal
 
-pub returns-then-c-n : goal.returns-then-c-n
+pub returns-then-n-image : goal.returns-then-n-image
 unfolding is_directory
-returns-then-c-n c = let args = c.args in
-    rw (le-ltb args.n (tree_of args.image.now).nodes (omega arith))
+returns-then-n-image c = let args = c.args in
+    ap (λ (k : ℕ). eqb k 1) c.node_kind.ensures.0 ∙ rw (lt-ltb args.n (tree_of args.image.bytes.now).nodes (omega arith))
 
-pub returns : goal.returns
+pub returns-else-n-image : goal.returns-else-n-image
 unfolding is_directory
-returns c = let args = c.args in
-    ap (λ (k : ℕ). eqb k 1) c.node_kind.ensures.0 ∙ rw (lt-ltb args.n (tree_of args.image.now).nodes (omega arith))
+returns-else-n-image c = let args = c.args in
+    le-ltb args.n args.image.counts.nodes (omega arith) ∙ rw (le-ltb args.n (tree_of args.image.bytes.now).nodes (omega arith))

@@ -14,32 +14,32 @@ pub node_parent-parent-requires : goal.node_parent-parent-requires
 node_parent-parent-requires c = let pre = c.requires in
     let args = c.args in
     let loop = c.loop-k in
-    (pre.0, directory-below (tree_of args.image.now) pre.1 loop.k loop.invariant.0)
+    directory-below (tree_of args.image.bytes.now) pre.0 loop.k loop.invariant.0
 
 pub returns-then-parent-k : goal.returns-then-parent-k
 returns-then-parent-k c = let args = c.args in
     let loop = c.loop-k in
     let pre = c.requires in
     let node-parent = c.node_parent-parent in
-    let t = tree_of args.image.now in
-    sym (loop.invariant.1 ∙ under_top t pre.1 args.root loop.k (sym node-parent.ensures.0 ∙ c.if-parent-k.true) ∙ ne_eqb loop.k args.root (λ e. omega arith))
+    let t = tree_of args.image.bytes.now in
+    sym (loop.invariant.1 ∙ under_top t pre.0 args.root loop.k (sym node-parent.ensures.0 ∙ c.if-parent-k.true) ∙ ne_eqb loop.k args.root (λ e. omega arith))
 
 pub loop-k-smaller : goal.loop-k-smaller
 loop-k-smaller c = let args = c.args in
     let pre = c.requires in
     let loop = c.loop-k in
     let node-parent = c.node_parent-parent in
-    let t = tree_of args.image.now in omega (arith, parent-le t pre.1 loop.k loop.invariant.0, node-parent.ensures.0)
+    let t = tree_of args.image.bytes.now in omega (arith, parent-le t pre.0 loop.k loop.invariant.0, node-parent.ensures.0)
 
 pub loop-k-preserved : goal.loop-k-preserved
 loop-k-preserved c = let args = c.args in
     let node-parent = c.node_parent-parent in
     let pre = c.requires in
     let loop = c.loop-k in
-    let t = tree_of args.image.now in (
-      subst (λ (k : ℕ). is_directory t k ≡ true) (sym node-parent.ensures.0) (parent-directory t pre.1 loop.k loop.invariant.0),
+    let t = tree_of args.image.bytes.now in (
+      subst (λ (k : ℕ). is_directory t k ≡ true) (sym node-parent.ensures.0) (parent-directory t pre.0 loop.k loop.invariant.0),
       loop.invariant.1
-          ∙ under_parent t pre.1 args.root loop.k loop.invariant.0
+          ∙ under_parent t pre.0 args.root loop.k loop.invariant.0
           ∙ rw (ne_eqb loop.k args.root (λ e. omega arith)) (ap (λ (k : ℕ). under t k args.root) (sym node-parent.ensures.0)),
     )
 
@@ -47,4 +47,4 @@ pub returns : goal.returns
 returns c = let loop = c.loop-k in
     let args = c.args in
     let pre = c.requires in
-    sym (loop.invariant.1 ∙ under-met (tree_of args.image.now) pre.1 args.root loop.k loop.invariant.0 c.loop-k-test.false)
+    sym (loop.invariant.1 ∙ under-met (tree_of args.image.bytes.now) pre.0 args.root loop.k loop.invariant.0 c.loop-k-test.false)

@@ -11,8 +11,8 @@ at_end-requires c = search (rules, at-within)
 pub returns-then-not-at_end : goal.returns-then-not-at_end
 returns-then-not-at_end c = search (rules, advanced-here)
 
-pub returns-then-depth-eq0 : goal.returns-then-depth-eq0
-returns-then-depth-eq0 c = search (rules, advanced-end)
+pub returns-then-w-eq0 : goal.returns-then-w-eq0
+returns-then-w-eq0 c = search (rules, advanced-end)
 
 pub overflow_cast-v : goal.overflow_cast-v
 overflow_cast-v c = omega (arith, c.type_inv.stack (c.args.w.depth - 1))

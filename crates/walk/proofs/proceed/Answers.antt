@@ -6,8 +6,8 @@ use Rattle.walk.proofs.proceed.Goals as goal
 pub advance-requires : goal.advance-requires
 advance-requires c = search (rules, go-resting)
 
-pub followed_to-requires : goal.followed_to-requires
-followed_to-requires c = search (rules, target-few)
+pub followed_to-state-requires : goal.followed_to-state-requires
+followed_to-state-requires c = search (rules, target-few)
 
 pub advance-requires-in-Target : goal.advance-requires-in-Target
 advance-requires-in-Target c = search (rules, target-resting)

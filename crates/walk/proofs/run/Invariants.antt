@@ -7,7 +7,10 @@ use Rattle.walk.specs.OpenTexts.{rest, Ready}
 use Rattle.walk.proofs.run.Given as goal
 
 abbrev pub invariant-loop-on : goal.invariant-loop-on
-invariant-loop-on l = (length l.stack ≡ length l.initial.stack) × Ready l.image l.path l.stack l.at × (rest l.image l.k l.path l.stack l.at ≡ rest l.image l.k l.path l.initial.stack l.initial.at)
+invariant-loop-on l =
+    let image = l.k.table.image.bytes.now in
+    (length l.stack ≡ length l.initial.stack) × Ready image l.path l.stack l.at
+    × (rest image l.k.request l.path l.stack l.at ≡ rest image l.k.request l.path l.initial.stack l.initial.at)
 
 abbrev pub decreases-loop-on : goal.decreases-loop-on
 decreases-loop-on l = 83968 - l.at.state.progress.components

@@ -6,11 +6,11 @@ use Rattle.component.proofs.moves.enter.Goals as goal
 pub returns-then-has : goal.returns-then-has
 returns-then-has c = search (rules, cover-barred)
 
-pub mount_root-root-requires : goal.mount_root-root-requires
-mount_root-root-requires c = search (rules, cover-below)
+pub mount_root-requires : goal.mount_root-requires
+mount_root-requires c = search (rules, cover-below)
 
 pub returns-else-has : goal.returns-else-has
 returns-else-has c = search (rules, cover-entered)
 
-pub returns-in-Nowhere : goal.returns-in-Nowhere
-returns-in-Nowhere c = search (rules, uncovered)
+pub returns-in-None : goal.returns-in-None
+returns-in-None c = search (rules, uncovered)

@@ -1,10 +1,8 @@
 -- `component::moves::go_up` meets its contract. Assumes nothing.
 use borrow.Author.Rules.{rules}
-use Rattle.component.proofs.MoveLaws.{up-elsewhere, up-marked, up-beneath, up-open}
+use Rattle.component.proofs.MoveLaws.{up-marked, up-beneath, up-open, up-elsewhere}
 use Rattle.component.proofs.moves.go_up.Goals as goal
-
-pub returns-then-not-same_place : goal.returns-then-not-same_place
-returns-then-not-same_place c = search (rules, up-elsewhere)
+use Rattle.component.proofs.moves.go_up.Goals.{then-eq+else-k+else-has, else-eq}
 
 pub returns-then-k : goal.returns-then-k
 returns-then-k c = search (rules, up-marked)
@@ -13,4 +11,4 @@ pub returns-then-has : goal.returns-then-has
 returns-then-has c = search (rules, up-beneath)
 
 pub returns : goal.returns
-returns c = search (rules, up-open)
+returns c = elim c.if-eq.branch [ then-eq+else-k+else-has w ↦ search (rules, up-open) | else-eq w ↦ search (rules, up-elsewhere) ]

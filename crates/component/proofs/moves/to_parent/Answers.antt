@@ -3,8 +3,8 @@ use borrow.Author.Rules.{rules}
 use Rattle.component.proofs.MoveLaws.{stood-below, parent-below, parent-entered}
 use Rattle.component.proofs.moves.to_parent.Goals as goal
 
-pub node_parent-parent-requires : goal.node_parent-parent-requires
-node_parent-parent-requires c = search (rules, stood-below)
+pub node_parent-requires : goal.node_parent-requires
+node_parent-requires c = search (rules, stood-below)
 
 pub enter-requires : goal.enter-requires
 enter-requires c = search (rules, parent-below)

@@ -7,12 +7,11 @@ use lib.Dec.{eqb}
 use Rattle.model.specs.Tree.{is_directory}
 use Rattle.parts.proofs.records.is_directory.Goals as goal
 
-pub returns-then-c-n : goal.returns-then-c-n
+pub returns-then-n-c : goal.returns-then-n-c
 unfolding is_directory
-returns-then-c-n c = let args = c.args in
-    rw (le-ltb args.n args.c.nodes (omega arith))
-
-pub returns : goal.returns
-unfolding is_directory
-returns c = let a = c.args in
+returns-then-n-c c = let a = c.args in
     ap (λ (k : ℕ). eqb k 1) c.node_kind.ensures.0 ∙ rw (lt-ltb a.n a.c.nodes (omega arith))
+
+pub returns-else-n-c : goal.returns-else-n-c
+unfolding is_directory
+returns-else-n-c c = let a = c.args in rw (le-ltb a.n a.c.nodes (omega arith))

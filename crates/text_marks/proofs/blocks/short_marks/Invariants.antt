@@ -6,6 +6,3 @@ use Rattle.text_marks.proofs.blocks.short_marks.Given as goal
 
 abbrev pub invariant-loop-i : goal.invariant-loop-i
 invariant-loop-i l = (l.at ≤ l.i) × MarksFrom (barred l.names) l.text l.i l.marks
-
-abbrev pub decreases-loop-i : goal.decreases-loop-i
-decreases-loop-i l = l.i

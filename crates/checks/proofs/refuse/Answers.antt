@@ -1,6 +1,0 @@
--- `checks::refuse` meets its contract. Assumes nothing.
-use mathlib.Core.Path.{refl}
-use Rattle.checks.proofs.refuse.Goals as goal
-
-pub returns : goal.returns
-returns c = refl

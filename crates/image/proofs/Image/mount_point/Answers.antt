@@ -1,0 +1,9 @@
+-- `Image::mount_point` meets its contract. Assumes nothing.
+use native.Mathlib.Omega.{arith}
+use Rattle.model.specs.Tree.{mounts_part, tree_of}
+use Rattle.laws.proofs.PartLaws.{read-column}
+use Rattle.image.proofs.Image.mount_point.Goals as goal
+
+pub returns : goal.returns
+unfolding tree_of mounts_part
+returns c = read-column 2 _ _ _ _ _ c.u16_at.ensures (omega arith) (omega arith)

@@ -1,0 +1,9 @@
+-- `Image::name_length` meets its contract. Assumes nothing.
+use native.Mathlib.Omega.{arith}
+use Rattle.model.specs.Tree.{entries_part, tree_of}
+use Rattle.laws.proofs.PartLaws.{read-column}
+use Rattle.image.proofs.Image.name_length.Goals as goal
+
+pub returns : goal.returns
+unfolding tree_of entries_part
+returns c = read-column 2 _ _ _ _ _ c.u16_at.ensures (omega arith) (omega arith)

@@ -1,9 +1,0 @@
--- `image::records::entry_node` meets its contract. Assumes nothing.
-use native.Mathlib.Omega.{arith}
-use Rattle.model.specs.Tree.{entries_part, tree_of}
-use Rattle.laws.proofs.PartLaws.{read-column}
-use Rattle.image.proofs.records.entry_node.Goals as goal
-
-pub returns : goal.returns
-unfolding tree_of entries_part
-returns c = read-column 2 _ _ _ _ _ c.u16_at.ensures (omega arith) (omega arith)

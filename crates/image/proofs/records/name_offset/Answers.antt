@@ -1,9 +1,0 @@
--- `image::records::name_offset` meets its contract. Assumes nothing.
-use native.Mathlib.Omega.{arith}
-use Rattle.model.specs.Tree.{entries_part, tree_of}
-use Rattle.laws.proofs.PartLaws.{read-column}
-use Rattle.image.proofs.records.name_offset.Goals as goal
-
-pub returns : goal.returns
-unfolding tree_of entries_part
-returns c = read-column 4 _ _ _ _ _ c.u32_at.ensures (omega arith) (omega arith)

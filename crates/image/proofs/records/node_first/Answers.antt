@@ -1,9 +1,0 @@
--- `image::records::node_first` meets its contract. Assumes nothing.
-use native.Mathlib.Omega.{arith}
-use Rattle.model.specs.Tree.{nodes_part, tree_of}
-use Rattle.laws.proofs.PartLaws.{read-column}
-use Rattle.image.proofs.records.node_first.Goals as goal
-
-pub returns : goal.returns
-unfolding tree_of nodes_part
-returns c = read-column 4 _ _ _ _ _ c.u32_at.ensures (omega arith) (omega arith)
