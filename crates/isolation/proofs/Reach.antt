@@ -1,7 +1,7 @@
 -- Reachable places of one table: they lie in the tree, not below their mount's root, and ".." leads from one to where it was reached from.
 -- Assumes nothing.
 use Rattle.std.specs.Prelude.{Option, None, Some}
-use Rattle.std.proofs.lemmas.Bool.{and_parts, or_parts, false_from_ne_true, cases_lt}
+use Rattle.std.proofs.lemmas.Bool.{and_parts, or_parts, cases_lt}
 use Prim.Native.Nat.{ℕ, ◌≤◌, ◌<◌}
 use mathlib.Core.Bool.{Bool, true, false, not, ◌&&◌, ◌||◌, or-true, true≢false}
 use mathlib.Core.Logic.{⊎_elim}
@@ -21,6 +21,7 @@ use Rattle.laws.specs.Acceptance.{Sound}
 use Rattle.laws.specs.Inside.{Inside}
 use Rattle.laws.proofs.Acceptance.{entries-inside, entry-facts, point-directory, mount-on-below}
 use Rattle.laws.proofs.ByteLaws.{find-some}
+use Rattle.laws.proofs.Cases.{fails}
 use Rattle.laws.proofs.EntryLaws.{holds-held, directory-stands}
 use Rattle.laws.proofs.Inside.{root_inside}
 use Rattle.laws.proofs.MountLaws.{mount-on-root}
@@ -204,11 +205,11 @@ module _ (t : Tree) (sound : Sound t) {h : Place} (good : Good t h) where
   unfolding same_place root_of
   not_root (here e) other d = absurd (not-other e other)
   not_root {p} (down e r un held is) other d =
-      false_from_ne_true _ (λ same.
+      fails _ (λ same.
       let b = and_parts (eqb p.mount 0) _ same in
       let node : p.node ≡ t.mount_root p.mount = eqb-true _ _ b.1 ∙ ap t.mount_root (sym (eqb-true _ _ b.0)) in
       cc (eq-eqb _ _ node, (down-climbs e r un held is d).1))
   not_root {p} (into {p = q} m r on is) other d =
-      false_from_ne_true _ (λ same.
+      fails _ (λ same.
       let first : m ≡ 0 = ap (λ (x : Place). x.mount) (sym is) ∙ eqb-true _ _ (and_parts (eqb p.mount 0) _ same).0 in
       omega (arith, (mount-on-below t q m on).0))

@@ -14,10 +14,11 @@ use Rattle.model.specs.declared.Progress.{Progress}
 use Rattle.model.specs.declared.State.{State}
 use Rattle.model.specs.declared.Reached.{Reached}
 use Rattle.model.specs.declared.Errno.{Errno}
-use Rattle.model.specs.declared.Errno.TheVariants.{Eloop}
+use Rattle.model.specs.declared.Errno.TheVariants.{Enotdir, Eloop}
 use Rattle.model.specs.declared.Answer.{Answer}
 use Rattle.model.specs.declared.Answer.TheVariants.{Found}
 use Rattle.laws.proofs.Cases.{cond_cases, cond_both}
+use Rattle.laws.proofs.TraceLaws.{found-not-refused}
 use Rattle.isolation.specs.Reachable.{Reachable, here, Each}
 use Rattle.isolation.proofs.Carried.{Shared, same-directory, same-link}
 use Rattle.isolation.proofs.Turns.{turn_under, traced-answer, traced-stood, start-stops}
@@ -38,7 +39,7 @@ module _ {t : Tree} {h : Place} (R : Restrictions) where
 
   refusing : (e : Errno) (p : Progress) → Traces t h R (stop (refused e p)) (stop (refused e p))
   unfolding answer stood_on Each
-  refusing e p = record { same_answer = refl; same-places = refl; stood = tt; found = λ r is. cc }
+  refusing e p = record { same_answer = refl; same-places = refl; stood = tt; found = λ r is. absurd (found-not-refused r e p (sym is)) }
 
   module _ (on on' : State → Trace) (later later' : List Component → State → Trace)
       (goes_on : (s : State) → Standing t h s.place → Traces t h R (on s) (on' s))
@@ -73,9 +74,9 @@ module _ {t u : Tree} {h : Place} (w : Shared t u h) (R : Restrictions)
   unfolding finish
   finish-found s r =
       cond_cases (λ (x : Answer). x ≡ Found r → s.place ≡ r.place) (s.directory && not (is_directory t s.place.node)) _ _
-      (λ _ is. cc)
+      (λ _ is. absurd (found-not-refused r Enotdir s.progress (sym is)))
       (λ _. cond_cases (λ (x : Answer). x ≡ Found r → s.place ≡ r.place) (is_link t s.place.node && not path_only) _ _
-      (λ _ is. cc) (λ _ is. cc))
+      (λ _ is. absurd (found-not-refused r Eloop s.progress (sym is))) (λ _ is. cc))
 
   finish-alike : (s : State) → Standing t h s.place → Traces t h R (stop (finish a s)) (stop (finish b s))
   unfolding answer stood_on Each finish
@@ -110,13 +111,13 @@ module _ {t u : Tree} {h : Place} (w : Shared t u h) (R : Restrictions)
   unfolding answer stood_on Each
   started None e k = record { same_answer = rw e k.same_answer; same-places = rw e k.same-places; stood = rw e k.stood; found = λ r is. k.found r (rw e at is) }
   started (Some n) e k =
-      record { same_answer = rw e; same-places = rw e; stood = rw e tt; found = λ r is. cc }
+      record { same_answer = rw e; same-places = rw e; stood = rw e tt; found = λ r is. absurd (found-not-refused r n not_walked (sym (rw e at is))) }
 
   start-refused : (x y : Trace) → in_root ≡ false → Traces t h R (meet Start not_walked x) (meet Start not_walked y)
   unfolding answer stood_on Each
   start-refused x y off =
       let e = start-stops R (scope off) in
-      record { same_answer = rw e; same-places = rw e; stood = rw e tt; found = λ r is. cc }
+      record { same_answer = rw e; same-places = rw e; stood = rw e tt; found = λ r is. absurd (found-not-refused r _ not_walked (sym (rw e at is))) }
 
   begin-from : (directory : Bool) (path : List ℕ) {p q : Place} → p ≡ h → q ≡ h → Traces t h R (begin_at a directory path p) (begin_at b directory path q)
   begin-from directory path is is' = rw (is, is') (begin-alike directory path)

@@ -1,5 +1,5 @@
 -- Going by cases on tests. Assumes nothing.
-use Rattle.std.proofs.lemmas.Bool.{and_parts, or_parts, cases_lt}
+use Rattle.std.proofs.lemmas.Bool.{and_parts, or_parts, false_from_ne_true, cases_lt}
 use Prim.Native.Nat.{ℕ, ◌≤◌, ◌<◌}
 use mathlib.Core.Logic.{◌⊎◌}
 use mathlib.Core.Bool.{Bool, true, false, cond, ◌&&◌, ◌||◌}
@@ -17,6 +17,10 @@ neither = or_parts
 pub first_of : (a b : Bool) → (a || b) ≡ true → b ≡ false → a ≡ true
 first_of true b e f = refl
 first_of false b e f = cc
+
+-- a test that passes only where it leads to nothing fails
+pub fails : (b : Bool) → (b ≡ true → ⊥) → b ≡ false
+fails = false_from_ne_true
 
 -- a fact of a choice, by its test
 pub cond_cases : {A : Type 0} (P : A → Type 0) (b : Bool) (x y : A) → (b ≡ true → P x) → (b ≡ false → P y) → P (cond b x y)

@@ -1,7 +1,7 @@
 -- Where the mount on a place can be: over an accepted table only above the place's own mount, and never on that mount's root.
 -- Assumes nothing.
 use Rattle.std.specs.Prelude.{None}
-use Rattle.std.proofs.lemmas.Bool.{and_parts, false_from_ne_true}
+use Rattle.std.proofs.lemmas.Bool.{and_parts}
 use Prim.Native.Nat.{ℕ, ◌+◌, ◌-◌, ◌≤◌, ◌<◌}
 use mathlib.Core.Bool.{Bool, true, false, ◌&&◌}
 use mathlib.Core.Path.{◌≡◌, sym, ap, ◌∙◌}
@@ -14,6 +14,7 @@ use Rattle.model.specs.Walk.{place_at}
 use Rattle.laws.specs.Acceptance.{MountsHold}
 use Rattle.laws.proofs.Acceptance.{mount-parent-lower, point-not-root}
 use Rattle.laws.proofs.ByteLaws.{find_absent, find-later}
+use Rattle.laws.proofs.Cases.{fails}
 
 -- the test of the search for the mount on a place
 abbrev pub on_place : Tree → ℕ → ℕ → ℕ → Bool
@@ -22,7 +23,7 @@ on_place t mount node k = eqb (t.mount_parent k) mount && eqb (t.mount_point k) 
 module _ (t : Tree) (mounts : MountsHold t) (mount node : ℕ) (h : mount < t.mounts) where
   not-below : (k : ℕ) → 1 ≤ k → k < mount + 1 → on_place t mount node k ≡ false
   not-below k l u =
-      false_from_ne_true _ (λ e.
+      fails _ (λ e.
       let parent = eqb-true (t.mount_parent k) mount (and_parts _ (eqb (t.mount_point k) node) e).0 in
       omega (arith, mount-parent-lower t mounts k l (omega arith), parent))
 
@@ -32,7 +33,7 @@ module _ (t : Tree) (mounts : MountsHold t) (mount node : ℕ) (h : mount < t.mo
 
   pub mount-on-root : node ≡ t.mount_root mount → mount_on t (place_at mount node) ≡ None
   unfolding mount_on
-  mount-on-root e = find_absent (on_place t mount node) 1 (t.mounts - 1) (λ k l u. false_from_ne_true _ (other k l (omega arith)))
+  mount-on-root e = find_absent (on_place t mount node) 1 (t.mounts - 1) (λ k l u. fails _ (other k l (omega arith)))
     where
       other : (k : ℕ) → 1 ≤ k → k < t.mounts → on_place t mount node k ≡ true → ⊥
       other k l u f =

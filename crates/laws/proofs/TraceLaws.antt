@@ -2,11 +2,18 @@
 use Rattle.std.specs.Prelude.{Option, None, Some}
 use mathlib.Core.List.{List, [], ◌∷◌}
 use mathlib.Core.Path.{◌≡◌, refl, ap, ◌∙◌}
+use Rattle.model.specs.Answers.{refused}
 use Rattle.model.specs.Bytes.{or_else, if_none}
 use Rattle.model.specs.Trace.{Event, Restrictions, Trace, meets, forbids, forbid_any, refused_by, answer, stood_on}
 use Rattle.model.specs.declared.Progress.{Progress}
+use Rattle.model.specs.declared.Reached.{Reached}
 use Rattle.model.specs.declared.Errno.{Errno}
 use Rattle.model.specs.declared.Answer.{Answer}
+use Rattle.model.specs.declared.Answer.TheVariants.{Found}
+
+-- a place is no refusal
+pub found-not-refused : (r : Reached) (e : Errno) (p : Progress) → Found r ≡ refused e p → ⊥
+found-not-refused r e p h = cc
 
 -- the first forbidden one refuses
 refused-or : (a b : Option Errno) (p : Progress) (later : Answer) → refused_by a p (refused_by b p later) ≡ refused_by (or_else a b) p later

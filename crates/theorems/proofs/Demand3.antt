@@ -32,6 +32,7 @@ use Rattle.laws.proofs.ByteLaws.{field-ext, find-ext}
 use Rattle.laws.proofs.Cases.{cond_cases}
 use Rattle.laws.proofs.BitLaws.{has-or, has-or-high, or-low}
 use Rattle.laws.proofs.Refusals.{unrefused, how-long}
+use Rattle.laws.proofs.TraceLaws.{found-not-refused}
 use Rattle.theorems.proofs.OnlyStops as trace
 
 -- the number that the bits of the added restrictions make, and its bits one by one
@@ -217,7 +218,7 @@ never-elsewhere added image call call' a r found = go (first_forbidden added (ev
 
     go : (o : Option Meeting) → first_forbidden added (events_of image call) ≡ o → resolve image call ≡ Found r
     go None e = sym (only.same e) ∙ found
-    go (Some (m, p)) e = let s = only.stopped m p e in cc
+    go (Some (m, p)) e = let s = only.stopped m p e in absurd (found-not-refused r s.0 p (sym found ∙ s.2))
 
 -- resolve after a store to its first byte
 resolve-set : (how : List ℕ) (y : ℕ) → 24 ≤ length how → get_or how 16 0 < 256 → y < 256
