@@ -105,8 +105,8 @@ pub fn lead_of(nodes: &[u8], mounts: &[u8], c: Counts, links: bool, k: usize) ->
     mount_lead(nodes, mounts, c, k)
 }
 
-// Follows parents from a directory to a root, in as many steps as are left, and tells how many are left then. No root that is met in time
-// tells nothing of the directory. At the top of a tree, its own parent, the steps run out.
+// Follows parents from a directory to a root, in as many steps as are left, and tells how many are left then. None, where the root was not
+// met in time, tells nothing of the directory. At the top of a tree, its own parent, the steps run out.
 fn climb(nodes: &[u8], c: Counts, n: usize, root: usize, steps: usize) -> Option<usize>
     requires { NodeRecords c nodes.now × DirectoriesHold (mounts_tree c nodes.now []) × (is_directory (mounts_tree c nodes.now []) n ≡ true) }
     ensures { result ≡ climbed (parent_in nodes.now) steps n root }

@@ -20,6 +20,7 @@ use Rattle.text.specs.Positions.{Stands, slashes, past_slashes, left}
 use Rattle.text.specs.Texts.{text_of}
 use Rattle.text.proofs.Components.{left-start, left_end, start-past, start-stands}
 use Rattle.text.proofs.Texts.{text-body, link-readable}
+use Rattle.request.specs.Walking.{Walking}
 use Rattle.request.specs.declared.Request.{Request}
 use Rattle.component.specs.declared.Outcome.{Outcome}
 use Rattle.component.specs.declared.Outcome.TheVariants.{Stop, Go, Target, Read}
@@ -47,7 +48,7 @@ module _ {s path stack : List ℕ} {w : Walk} (r : Resting s path stack w) (p : 
   followed-leads xs e l = leads-to l (ap₂ (λ m ys. on_with m ys (followed_to p slash w.state)) one_fewer e)
 
 -- the cases of an outcome
-module _ {s path stack : List ℕ} {c : Counts} {k : Request} {w : Walk} {last : Bool} {o : Outcome} (b : Behind s c k path stack w last o) where
+module _ {s path stack : List ℕ} {w : Walk} {last : Bool} {o : Outcome} (b : Behind s path stack w last o) where
   good-as : {x : Outcome} → o ≡ x → OutcomeInside (tree_of s) w.state.progress.links x
   good-as is = subst (OutcomeInside (tree_of s) w.state.progress.links) is b.good
 
@@ -85,8 +86,8 @@ module _ {s path stack : List ℕ} {c : Counts} {k : Request} {w : Walk} {last :
           (as-outcome is (followed-leads b.resting p target-few false _ refl (subst (λ (x : State). Advanced s path stack (in_state w x) n) st-is l)), refl)
 
   module _ {n : ℕ} {p : Place} (is : o ≡ Read n p) where
-    pub read_next : Behind s c k path stack w last (Read n p)
-    read_next = record { walking = b.walking; resting = b.resting; good = good-as is; last_is = b.last_is }
+    pub read_next : Behind s path stack w last (Read n p)
+    read_next = record { resting = b.resting; good = good-as is; last_is = b.last_is }
 
     pub read-leads : {after : List ℕ} {r : Next} → Proceeded s path stack w (Read n p) after r → Proceeded s path stack w o after r
     read-leads l = (as-outcome is l.0, l.1)
@@ -96,12 +97,13 @@ abbrev slash_of : List ℕ → List ℕ → List ℕ → Walk → ℕ → Bool
 slash_of s path stack w n = is_empty (pending (tree_of s) path stack w) && ends_in_slash ((tree_of s).body n)
 
 -- a body and its components
-module _ {s path stack : List ℕ} {k : Request} {c : Counts} {w : Walk} {last : Bool} {n : ℕ} {p : Place} (b : Behind s c k path stack w last (Read n p)) where
+module _ {s path stack : List ℕ} {c : Counts} {k : Request} {w : Walk} {last : Bool} {n : ℕ} {p : Place} (walking : Walking s c k)
+    (b : Behind s path stack w last (Read n p)) where
   sound : Sound (tree_of s)
-  sound = accepted-sound s b.walking.reading.accepted
+  sound = accepted-sound s walking.reading.accepted
 
   body-text : text_of (tree_of s) path n ≡ (tree_of s).body n
-  body-text = text-body (tree_of s) path n (λ (e : n ≡ given_path). omega (arith, b.good.2, b.walking.reading.counted.sized.few_nodes))
+  body-text = text-body (tree_of s) path n (λ (e : n ≡ given_path). omega (arith, b.good.2, walking.reading.counted.sized.few_nodes))
 
   pub body-held : (tree_of s).first n + (tree_of s).count n ≤ (tree_of s).text_length
   body-held = (symlink-facts sound.nodes_hold n b.good.2 b.good.3).0
@@ -145,7 +147,7 @@ module _ {s path stack : List ℕ} {k : Request} {c : Counts} {w : Walk} {last :
           (record {
             resting = record {
               placed = record {
-                small = omega (arith, b.good.2, b.walking.reading.counted.sized.few_nodes);
+                small = omega (arith, b.good.2, walking.reading.counted.sized.few_nodes);
                 readable = link-readable sound.nodes_hold n b.good.2 b.good.3;
                 short = rw body-text (body-small (tree_of s) sound n b.good.2 b.good.3);
                 stands = subst (λ xs. Stands xs (slashes ((tree_of s).body n))) (sym body-text) (start-stands ((tree_of s).body n));

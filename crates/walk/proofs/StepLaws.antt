@@ -177,9 +177,8 @@ module _ {s path stack : List ℕ} {k : Request} {c : Counts} {w : Walk} (walkin
         on_one = stands_on kind-is names-is on
 
         -- so the walk can go on from behind it
-        pub proceeds : Behind s c k path stack went last o
+        pub proceeds : Behind s path stack went last o
         proceeds = record {
-          walking = walking;
           resting = subst (Resting s path stack) (sym went-is) behind-resting;
           good = subst₂ (λ v y. OutcomeInside (tree_of s) v.state.progress.links y) (sym went-is) (sym leads-on) (leads-inside on_one (last_at s path stack w) (name_at s path w));
           last_is = ends ∙ ap (λ v. is_empty (pending (tree_of s) path stack v)) (sym went-is);

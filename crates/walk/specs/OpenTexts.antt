@@ -10,9 +10,7 @@ use Rattle.laws.specs.Inside.{Inside}
 use Rattle.theorems.specs.Ordered.{Ordered}
 use Rattle.text.specs.Positions.{Stands, left}
 use Rattle.text.specs.Texts.{text_of, Readable}
-use Rattle.parts.specs.declared.records.Counts.{Counts}
 use Rattle.request.specs.Requests.{request_for, restrictions_for}
-use Rattle.request.specs.Walking.{Walking}
 use Rattle.request.specs.declared.Request.{Request}
 use Rattle.component.specs.declared.Outcome.{Outcome}
 use Rattle.component.specs.declared.Outcome.TheVariants.{Stop, Go, Target, Read}
@@ -119,8 +117,7 @@ abbrev pub proceed : List ℕ → List ℕ → List ℕ → Walk → Outcome →
 proceed s path stack w o = after_outcome (tree_of s) (links_left w.state) (pending (tree_of s) path stack w) w.state o
 
 -- a walk behind a component that it has taken, with where that leads and whether it was the last
-pub record Behind (s : List ℕ) (c : Counts) (k : Request) (path stack : List ℕ) (w : Walk) (last : Bool) (o : Outcome) : Type 0 where
-  pub walking : Walking s c k
+pub record Behind (s path stack : List ℕ) (w : Walk) (last : Bool) (o : Outcome) : Type 0 where
   pub resting : Resting s path stack w
   pub good : OutcomeInside (tree_of s) w.state.progress.links o
   pub last_is : last ≡ is_empty (pending (tree_of s) path stack w)

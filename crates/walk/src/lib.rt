@@ -97,7 +97,7 @@ fn read_body(
     n: usize,
     p: Place,
 ) -> Next
-    requires { Behind k.table.image.bytes.now k.table.image.counts k.request path.now stack.old w last (Outcome.Read n p) }
+    requires { Behind k.table.image.bytes.now path.now stack.old w last (Outcome.Read n p) }
     ensures { Proceeded k.entry.table.image.bytes.now path.now stack.old w (Outcome.Read n p) stack.new result }
 {
     let image = k.table.image;
@@ -113,7 +113,7 @@ fn read_body(
 
 // What an outcome comes to; `w` has taken the component and stands behind it.
 fn proceed(k: Scope<'_>, path: &[u8], stack: &mut [u32], w: Walk, last: bool, o: Outcome) -> Next
-    requires { Behind k.table.image.bytes.now k.table.image.counts k.request path.now stack.old w last o }
+    requires { Behind k.table.image.bytes.now path.now stack.old w last o }
     ensures { Proceeded k.entry.table.image.bytes.now path.now stack.old w o stack.new result }
 {
     match o {
