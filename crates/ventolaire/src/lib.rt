@@ -16,7 +16,7 @@ use descriptor_table::{close, duplicate, set_mark};
 use descriptors::{open, open_accepted, start, start_accepted};
 use lookup::{lookup, lookup_accepted};
 use model::{Errno, Handle};
-use numbers::{put_answer, put_built, put_lookup, put_reply, put_verdict};
+use numbers::{errno_number, put_answer, put_built, put_lookup, put_reply, put_verdict};
 use resolver::{resolve, resolve_accepted};
 use slots::DESCRIPTORS;
 use table::check;
@@ -127,41 +127,39 @@ pub fn ventolaire_build(
     4
 }
 
-// The numbers of the errnos, in the order in which they are declared.
-const ERRNOS: [u64; 12] = [
-    Errno::Euclean as u64,
-    Errno::E2big as u64,
-    Errno::Einval as u64,
-    Errno::Enametoolong as u64,
-    Errno::Enoent as u64,
-    Errno::Ebadf as u64,
-    Errno::Enotdir as u64,
-    Errno::Eloop as u64,
-    Errno::Exdev as u64,
-    Errno::Emfile as u64,
-    Errno::Enotty as u64,
-    Errno::Erange as u64,
-];
-
-// The numbers of the errnos, in the order in which they are declared. An array with room for the first
-// eleven alone gets these, and one with room for the first nine alone gets those. By three copies of fixed lengths: one of any length would call
-// memcpy, which the header doesn't ask for.
+// The numbers of the errnos, in the order in which they are declared. An array with room for the first eleven alone gets these, and one
+// with room for the first nine alone gets those. By three copies of fixed lengths: one of any length would call memcpy, which the header
+// doesn't ask for.
 pub fn ventolaire_errnos(out: &mut [u64]) -> usize
     ensures { Writes (errnos_for (length out.old)) out.old out.new result }
 {
+    let numbers = [
+        errno_number(Errno::Euclean),
+        errno_number(Errno::E2big),
+        errno_number(Errno::Einval),
+        errno_number(Errno::Enametoolong),
+        errno_number(Errno::Enoent),
+        errno_number(Errno::Ebadf),
+        errno_number(Errno::Enotdir),
+        errno_number(Errno::Eloop),
+        errno_number(Errno::Exdev),
+        errno_number(Errno::Emfile),
+        errno_number(Errno::Enotty),
+        errno_number(Errno::Erange),
+    ];
     let room = out.len();
     if room < 9 {
         return 0;
     }
     if room < 11 {
-        out[..9].copy_from_slice(&ERRNOS[..9]);
+        out[..9].copy_from_slice(&numbers[..9]);
         return 9;
     }
     if room < 12 {
-        out[..11].copy_from_slice(&ERRNOS[..11]);
+        out[..11].copy_from_slice(&numbers[..11]);
         return 11;
     }
-    out[..12].copy_from_slice(&ERRNOS);
+    out[..12].copy_from_slice(&numbers);
     12
 }
 
