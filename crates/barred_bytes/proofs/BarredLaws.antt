@@ -7,7 +7,7 @@ use native.Mathlib.Omega.{arith}
 use borrow.Author.Tests.{not-true}
 use lib.Dec.{eqb}
 use lib.ListN.{length, get_or, take, drop, length-drop}
-use lib.Seq.{take_all}
+use lib.Seq.{take_all, drop-drop}
 use Rattle.model.specs.Bytes.{part, contains}
 use Rattle.laws.proofs.StringLaws.{contains-next, contains-end}
 use Rattle.barred_bytes.specs.Barred.{holds_barred, barred}
@@ -116,3 +116,47 @@ module _ (names : Bool) (s : List ℕ) (width : ℕ) (least : width ≤ length s
       let all : take width (drop at s) ≡ drop at s = take_all width (drop at s) (simp length-drop (omega arith)) in
       ap (holds_barred names) all
       ∙ sym (split names s at (omega arith) ∙ ap (λ (b : Bool). b || holds_barred names (drop at s)) (fewer-clean names s at width (omega arith) e))
+
+-- what stands from a position on holds one if the whole does, where what stands further on and the whole are alike
+alike-between : (whole rest last p q : Bool) → whole ≡ (p || rest) → rest ≡ (q || last) → whole ≡ last → rest ≡ whole
+alike-between true true last p q w r e = refl
+alike-between false false last p q w r e = refl
+alike-between true false last p q w r e = absurd (true≢false (sym (r ∙ ap (λ (b : Bool). q || b) (sym e) ∙ or-true q)))
+alike-between false true last p q w r e = absurd (true≢false (sym (w ∙ or-true p)))
+
+-- a loop looks for a barred byte by blocks, and stands at k
+pub record BlocksFrom (names : Bool) (s : List ℕ) (k : ℕ) : Type 0 where
+  pub within : k ≤ length s
+  pub seen : holds_barred names s ≡ holds_barred names (drop k s)
+
+module _ (names : Bool) (s : List ℕ) (width : ℕ) where
+  pub blocks-none : BlocksFrom names s 0
+  blocks-none = record { within = omega arith; seen = refl }
+
+  module _ {k : ℕ} (from : BlocksFrom names s k) where
+    by-block : k + width ≤ length s → holds_barred names s ≡ (holds_barred names (part s k width) || holds_barred names (drop (k + width) s))
+    unfolding part
+    by-block h =
+        from.seen
+        ∙ split names (drop k s) width (simp length-drop (omega arith))
+        ∙ ap (λ (t : List ℕ). holds_barred names (take width (drop k s)) || holds_barred names t) (drop-drop width k s)
+
+    pub block-barred : k + width ≤ length s → holds_barred names (part s k width) ≡ true → true ≡ holds_barred names s
+    block-barred h e = sym (by-block h ∙ ap (λ (b : Bool). b || holds_barred names (drop (k + width) s)) e)
+
+    pub block-clean : k + width ≤ length s → holds_barred names (part s k width) ≡ false → BlocksFrom names s (k + width)
+    block-clean h e = record { within = h; seen = by-block h ∙ ap (λ (b : Bool). b || holds_barred names (drop (k + width) s)) e }
+
+    -- the last block, which begins where the loop ends or before
+    pub block-last : (last : ℕ) → last ≤ k → last + width ≡ length s → holds_barred names (part s last width) ≡ holds_barred names s
+    unfolding part
+    block-last last l e =
+        let rest = drop last s in
+        let on : drop (k - last) rest ≡ drop k s = let m : last + (k - last) ≡ k = omega arith in drop-drop (k - last) last s ∙ rw m in
+        ap (holds_barred names) (take_all width rest (simp length-drop (omega arith)))
+        ∙ alike-between (holds_barred names s) (holds_barred names rest) (holds_barred names (drop k s)) (holds_barred names (take last s))
+        (holds_barred names (take (k - last) rest))
+        (split names s last (omega (arith, from.within)))
+        (split names rest (k - last) (simp length-drop (omega (arith, from.within)))
+        ∙ ap (λ (t : List ℕ). holds_barred names (take (k - last) rest) || holds_barred names t) on)
+        from.seen

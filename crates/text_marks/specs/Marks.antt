@@ -36,6 +36,10 @@ pub record MarkedFrom (names : Bool) (text : List ℕ) (start : ℕ) (marks behi
   pub block : (b : ℕ) → start ≤ b → 64 * b ≤ length text → get_or marks b 0 ≡ block_marks names text (64 * b)
   pub later : (b : ℕ) → start ≤ b → 64 * b ≤ length text → get_or behind b 0 ≡ first_from names text (block_end text (64 * b)) (length text)
 
+-- the marks that two lists hold
+abbrev pub marks_in : List ℕ → List ℕ → Marks
+marks_in bits behind = record { bits = bits; behind = behind }
+
 -- a text of at most 65,535 bytes, and both for all its blocks
 pub record Marked (names : Bool) (text : List ℕ) (m : Marks) : Type 0 where
   pub short : length text ≤ 65535

@@ -46,7 +46,7 @@ fn byte_marks(text: &[u8], byte: u8, at: usize) -> u64
     requires { at + 64 ≤ length text.now }
     ensures { result ≡ marks_of (λ x. eqb x byte) text.now at 64 }
 {
-    if !block_holds::<BLOCK>(text, byte, at) {
+    if !block_holds(text, byte, at, BLOCK) {
         return 0;
     }
     full_marks(text, byte, at)

@@ -5,7 +5,7 @@
 pub mod blocks;
 
 ghost use Rattle.std.specs.Prelude.{replicate, ◌≡◌, ◌*◌, ◌/◌, ◌%◌, ◌≤◌, ◌<◌, length};
-ghost use Rattle.text_marks.specs.Marks.{first_of, Marked, NextBarred};
+ghost use Rattle.text_marks.specs.Marks.{first_of, marks_in, Marked, NextBarred};
 
 use crate::blocks::block_marks;
 
@@ -18,6 +18,29 @@ fn first_of(marks: u64, at: usize, behind: usize) -> usize
         return behind;
     }
     at + (u64::trailing_zeros(marks) as usize)
+}
+
+// From the last block on, so that what is behind a block is known.
+pub fn fill(text: &[u8], names: bool, marks: &mut [u64], behind: &mut [u16])
+    requires { (length text.now ≤ 65535) × (1024 ≤ length marks.old) × (1024 ≤ length behind.old) }
+    ensures { Marked names text.now (marks_in marks.new behind.new) × (1024 ≤ length marks.new) × (1024 ≤ length behind.new) }
+{
+    let mut next = text.len();
+    for b in (0..text.len() / 64 + 1).rev() {
+        behind[b] = next as u16;
+        let bits = block_marks(text, names, 64 * b);
+        marks[b] = bits;
+        next = first_of(bits, 64 * b, next);
+    }
+}
+
+// The first barred byte from a position on, else the text's end, of a text that has these marks.
+pub fn next_barred(marks: &[u64], behind: &[u16], at: usize) -> usize
+    requires { (at ≤ 65535) × (1024 ≤ length marks.now) × (1024 ≤ length behind.now) }
+    ensures { NextBarred (marks_in marks.now behind.now) at result }
+{
+    let b = at / 64;
+    first_of(marks[b] >> ((at % 64) as u64), at, usize::from(behind[b]))
 }
 
 // So many blocks of 64 bytes begin in a text that may be marked.
@@ -41,30 +64,19 @@ impl Marks {
         }
     }
 
-    // From the last block on, so that what is behind a block is known.
+    // The marks of a text.
     pub fn fill(&mut self, text: &[u8], names: bool)
         requires { length text.now ≤ 65535 }
         ensures { Marked names text.now self.new }
     {
-        let mut next = text.len();
-        for b in (0..text.len() / 64 + 1).rev() {
-            self.behind[b] = next as u16;
-            let bits = block_marks(text, names, 64 * b);
-            self.bits[b] = bits;
-            next = first_of(bits, 64 * b, next);
-        }
+        fill(text, names, &mut self.bits, &mut self.behind);
     }
 
-    // The first barred byte from a position on, else the text's end, of a text that has these marks.
+    // By these marks.
     pub fn next_barred(&self, at: usize) -> usize
         requires { at ≤ 65535 }
         ensures { NextBarred self.now at result }
     {
-        let b = at / 64;
-        first_of(
-            self.bits[b] >> ((at % 64) as u64),
-            at,
-            usize::from(self.behind[b]),
-        )
+        next_barred(&self.bits, &self.behind, at)
     }
 }

@@ -6,7 +6,7 @@ use Rattle.barred_bytes.proofs.block_holds.Goals as goal
 use Rattle.barred_bytes.proofs.block_holds.Goals.{then-s-at, else-s-at}
 
 pub loop-i-preserved : goal.loop-i-preserved
-loop-i-preserved g c = elim c.if-s-at.branch [ then-s-at w ↦ search (rules, block-hit) | else-s-at w ↦ search (rules, block-miss) ]
+loop-i-preserved c = elim c.if-s-at.branch [ then-s-at w ↦ search (rules, block-hit) | else-s-at w ↦ search (rules, block-miss) ]
 
 pub returns : goal.returns
-returns g c = search (rules, block-all)
+returns c = search (rules, block-all)

@@ -5,4 +5,4 @@ use Rattle.laws.proofs.StringLaws.{Seen}
 use Rattle.barred_bytes.proofs.block_holds.Given as goal
 
 abbrev pub invariant-loop-i : goal.invariant-loop-i
-invariant-loop-i g l = Seen l.byte (part l.s l.at g.row.WIDTH) l.found l.i
+invariant-loop-i l = Seen l.byte (part l.s l.at l.width) l.found l.i

@@ -1,4 +1,4 @@
--- `text_marks::Marks::fill` meets its contract. The loop's invariant: the blocks from here on are marked, and `next` is the first barred byte from
+-- `text_marks::fill` meets its contract. The loop's invariant: the blocks from here on are marked, and `next` is the first barred byte from
 -- them on. Assumes nothing.
 use Prim.Native.Nat.{ℕ, ◌-◌, ◌*◌}
 use mathlib.Core.Path.{◌≡◌, subst, ◌∙◌}
@@ -6,7 +6,7 @@ use native.Mathlib.Omega.{arith}
 use lib.ListN.{length}
 use Rattle.text_marks.specs.Marks.{MarkedFrom}
 use Rattle.text_marks.proofs.MarkLaws.{first_found, first-of-block, next-none, marked-none, next-later, next_more, marked_more}
-use Rattle.text_marks.proofs.Marks.fill.Goals as goal
+use Rattle.text_marks.proofs.fill.Goals as goal
 
 pub loop-b-init : goal.loop-b-init
 loop-b-init c = let a = c.args in
@@ -30,5 +30,5 @@ pub returns : goal.returns
 returns c = let a = c.args in
     let l = c.loop-b in
     let done : l.b ≡ 0 = omega arith in
-    let all = subst (λ (b : ℕ). MarkedFrom a.names a.text.now b l.self.bits l.self.behind) done l.invariant.2 in
-    record { short = c.requires; all = all }
+    let all = subst (λ (b : ℕ). MarkedFrom a.names a.text.now b l.marks l.behind) done l.invariant.2 in
+    (record { short = c.requires.0; all = all }, omega arith, omega arith)

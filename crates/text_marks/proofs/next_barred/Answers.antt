@@ -1,9 +1,9 @@
--- `text_marks::Marks::next_barred` meets its contract. Assumes nothing.
+-- `text_marks::next_barred` meets its contract. Assumes nothing.
 use Prim.Native.Nat.{ℕ, ◌/◌, ◌%◌, ◌^◌}
 use mathlib.Core.Path.{refl, ap, ◌∙◌}
 use native.Mathlib.Omega.{arith}
 use Rattle.text_marks.proofs.MarkLaws.{first-in-block}
-use Rattle.text_marks.proofs.Marks.next_barred.Goals as goal
+use Rattle.text_marks.proofs.next_barred.Goals as goal
 
 pub returns : goal.returns
 returns c names text marked inside = let at = c.args.at in
